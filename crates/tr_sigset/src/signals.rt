@@ -1,0 +1,85 @@
+ghost use Rattle.std.specs.Prelude.{◌≡◌, ◌≤◌, ◌↔◌, IsTrue, SomeIff};
+ghost use Rattle.tr_sigset.specs.Signals.{IsSignal, base_of};
+
+use std::marker::Model;
+
+/// What a signal does to a process by default: the column "Action" of signal(7).
+#[derive(Clone, Copy, Debug, PartialEq, Eq)]
+pub enum Base {
+    /// The process ends.
+    Term,
+    /// The process ends. This model writes no core file, so it ends as by `Term`.
+    Core,
+    /// Nothing happens.
+    Ignored,
+    /// The process stops.
+    Stop,
+    /// A stopped process continues.
+    Continue,
+}
+
+/// A signal. Contracts see its number, 1 to 64, as signal(7) has it on x86 and ARM.
+#[derive(Clone, Copy, Debug, PartialEq, Eq)]
+pub struct Signal {
+    number: u8,
+}
+
+impl Model for Signal {
+    ghost use Rattle.std.specs.Prelude.{ℕ, ◌≤◌};
+
+    ghost Value = { ℕ };
+
+    ghost view = { λ s. s.number };
+
+    ghost invariant = { λ s. (1 ≤ s.number) × (s.number ≤ 64) };
+
+    ghost inverse = { λ n. record { number = n } };
+}
+
+impl Signal {
+    /// The signal of a number, where that is 1 to 64.
+    pub fn new(number: u8) -> Option<Signal>
+        ensures { SomeIff result (IsSignal number) number }
+    {
+        if 1 <= number && number <= 64 {
+            Some(Signal { number })
+        } else {
+            None
+        }
+    }
+
+    /// Its number, 1 to 64.
+    pub fn number(self) -> u8
+        ensures value { result ≡ self }
+        ensures range { IsSignal result }
+    {
+        self.number
+    }
+
+    /// What it does by default.
+    pub fn default_action(self) -> Base
+        ensures { result ≡ base_of self }
+    {
+        match self.number {
+            3..=8 | 11 | 24 | 25 | 31 => Base::Core,
+            17 | 23 | 28 => Base::Ignored,
+            18 => Base::Continue,
+            19..=22 => Base::Stop,
+            _ => Base::Term,
+        }
+    }
+
+    /// Whether it is one of the four stop signals: STOP, TSTP, TTIN, TTOU (19 to 22).
+    pub fn is_stop(self) -> bool
+        ensures { IsTrue result ↔ ((19 ≤ self) × (self ≤ 22)) }
+    {
+        19 <= self.number && self.number <= 22
+    }
+
+    /// Whether it is a real-time signal (32 to 64), whose instances queue and never merge.
+    pub fn is_real_time(self) -> bool
+        ensures { IsTrue result ↔ (32 ≤ self) }
+    {
+        32 <= self.number
+    }
+}
