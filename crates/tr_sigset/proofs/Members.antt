@@ -1,6 +1,6 @@
 -- What the operations on words do to membership.
 use Rattle.std.proofs.Common.{◌≡◌, ◌≢◌, ℕ, ◌+◌, ◌-◌, ◌*◌, ◌/◌, ◌%◌, ◌^◌, ◌<◌, ◌≤◌, Bool, true, false, ◌&&◌, ◌||◌, not, nat_lt, nat_le, ◌==◌, Option, Some, None, zero, suc, arith, refl, sym, ap, ◌∙◌, min, max, inl, inr}
-use Rattle.std.specs.Prelude.{bit_or, bit_and, IfSome}
+use Rattle.std.specs.Prelude.{bit_or, bit_and, IfSome, SomeIff}
 use Rattle.std.specs.Int.{bit_at, bit_not, trailing_zeros, w64}
 use Rattle.std.proofs.lemmas.Nat.Bits.{bit_at_or, bit_at_and, bit_at_not, bit_at-pow_same, bit_at-pow_other, bit_at-zero, bit_at-lt, same_from_bits_below, shr_and_one, and_pow, bit_at-trailing_zeros}
 use Rattle.std.proofs.lemmas.Bool.Decides.{nat_tests}
@@ -8,6 +8,7 @@ use Rattle.std.proofs.lemmas.Bool.{cases_lt}
 use Rattle.std.proofs.lemmas.Nat.{pow_below, pow_pos}
 use Rattle.std.proofs.Math.Nat.{mod-eq_of_lt, zero-mul}
 use Rattle.tr_sigset.specs.Sets.{in_word}
+use Rattle.tr_sigset.specs.Signals.{IsSignal}
 
 -- tests of bits, each 0 or 1
 
@@ -41,6 +42,10 @@ where_true : (p x y : Bool) → (p ≡ true → x ≡ y) → (p && x) ≡ (p && 
 where_true true x y same = same refl
 where_true false x y same = refl
 
+never : (p : Bool) → (p && false) ≡ false
+never true = refl
+never false = refl
+
 in_range : (n : ℕ) → (nat_le 1 n && nat_le n 64) ≡ true → n - 1 < 64
 in_range n e = grind (arith, nat_tests)
 
@@ -48,11 +53,7 @@ in_range n e = grind (arith, nat_tests)
 
 pub in_word-zero : (n : ℕ) → in_word 0 n ≡ false
 unfolding in_word
-in_word-zero n = rw (bit_at-zero (n - 1)) (none (nat_le 1 n && nat_le n 64))
-  where
-    none : (p : Bool) → (p && false) ≡ false
-    none true = refl
-    none false = refl
+in_word-zero n = rw (bit_at-zero (n - 1)) (never (nat_le 1 n && nat_le n 64))
 
 pub in_word-union : (a b n : ℕ) → in_word (bit_or a b) n ≡ (in_word a n || in_word b n)
 unfolding in_word
@@ -87,18 +88,16 @@ single_same : (s : ℕ) → 1 ≤ s → s ≤ 64 → in_word (2 ^ (s - 1)) s ≡
 unfolding in_word
 single_same s p q = rw (bit_at-pow_same (s - 1)) (grind (arith, nat_tests))
 
-single_other : (s n : ℕ) → 1 ≤ s → n ≢ s → in_word (2 ^ (s - 1)) n ≡ false
+single_other : (s n : ℕ) → 1 ≤ s → 1 ≤ n → n ≢ s → in_word (2 ^ (s - 1)) n ≡ false
 unfolding in_word
-single_other zero n p ne = elim p [ ]
-single_other (suc s) zero p ne = refl
-single_other (suc s) (suc n) p ne = rw (bit_at-pow_other s n (λ e. ne (omega (arith, e)))) (none (nat_le 1 (suc n) && nat_le (suc n) 64))
-  where
-    none : (p : Bool) → (p && false) ≡ false
-    none true = refl
-    none false = refl
+single_other s n p q ne = ap (λ v. (nat_le 1 n && nat_le n 64) && (v == 1)) (bit_at-pow_other (s - 1) (n - 1) (λ e. ne (omega (arith, e)))) ∙ never (nat_le 1 n && nat_le n 64)
+
+single_none : (s n : ℕ) → n ≡ 0 → in_word (2 ^ (s - 1)) n ≡ false
+unfolding in_word
+single_none s n e = rw e refl
 
 in_word-single : (s n : ℕ) → 1 ≤ s → s ≤ 64 → in_word (2 ^ (s - 1)) n ≡ (n == s)
-in_word-single s n p q = grind (arith, nat_tests, single_same, single_other)
+in_word-single s n p q = grind (arith, nat_tests, single_same, single_other, single_none)
 
 -- as the code makes it
 single_word : (s : ℕ) → 1 ≤ s → s ≤ 64 → 1 * 2 ^ (s - 1) % 2 ^ 64 ≡ 2 ^ (s - 1)
@@ -136,12 +135,21 @@ same_members a b p q same = same_from_bits_below 64 a b p q (λ i l. equal_bits 
 
 -- the least member of a word that isn't 0
 
-pub least_member : (w : ℕ) → w < 2 ^ 64 → w ≢ 0 → trailing_zeros w64 w < 64 → in_word w (trailing_zeros w64 w + 1) ≡ true
-least_member w p ne l = in_word-suc w (trailing_zeros w64 w) l ∙ ap (λ v. v == 1) (bit_at-trailing_zeros w64 w (omega (arith, ne)) p).1
+least : (w : ℕ) → w < 2 ^ 64 → w ≢ 0 → trailing_zeros w64 w < 64 → in_word w (trailing_zeros w64 w + 1) ≡ true
+least w p ne l = in_word-suc w (trailing_zeros w64 w) l ∙ ap (λ v. v == 1) (bit_at-trailing_zeros w64 w (omega (arith, ne)) p).1
 
-pub none_less : (w n : ℕ) → w < 2 ^ 64 → w ≢ 0 → trailing_zeros w64 w < 64 → n < trailing_zeros w64 w + 1 → in_word w n ≡ false
+none_less : (w n : ℕ) → w < 2 ^ 64 → w ≢ 0 → trailing_zeros w64 w < 64 → n < trailing_zeros w64 w + 1 → in_word w n ≡ false
 unfolding in_word
 none_less w zero p ne l h = refl
 none_less w (suc n) p ne l h =
     let e : suc n ≡ n + 1 = omega arith in
     ap (in_word w) e ∙ in_word-suc w n (omega arith) ∙ ap (λ v. v == 1) ((bit_at-trailing_zeros w64 w (omega (arith, ne)) p).2 n (omega arith))
+
+-- what is made of the place of the lowest bit, where that makes a signal
+pub least_member : (w : ℕ) (o : Option ℕ) → SomeIff o (IsSignal (trailing_zeros w64 w + 1)) (trailing_zeros w64 w + 1) → w < 2 ^ 64 → w ≢ 0 → IfSome o (λ s. in_word w s ≡ true)
+least_member w None h p ne = tt
+least_member w (Some s) h p ne = ap (λ n. in_word w n) h.1 ∙ least w p ne (omega (arith, h.0))
+
+pub least_is_least : (w : ℕ) (o : Option ℕ) → SomeIff o (IsSignal (trailing_zeros w64 w + 1)) (trailing_zeros w64 w + 1) → w < 2 ^ 64 → w ≢ 0 → IfSome o (λ s. (n : ℕ) → n < s → in_word w n ≡ false)
+least_is_least w None h p ne = tt
+least_is_least w (Some s) h p ne = λ n l. none_less w n p ne (omega (arith, h.0)) (omega (arith, h.1))

@@ -18,6 +18,41 @@ pub enum Base {
     Continue,
 }
 
+/// The default actions of HUP (1) to SYS (31); a real-time signal ends the process.
+const NAMED: [Base; 31] = [
+    Base::Term, // HUP
+    Base::Term, // INT
+    Base::Core, // QUIT
+    Base::Core, // ILL
+    Base::Core, // TRAP
+    Base::Core, // ABRT
+    Base::Core, // BUS
+    Base::Core, // FPE
+    Base::Term, // KILL
+    Base::Term, // USR1
+    Base::Core, // SEGV
+    Base::Term, // USR2
+    Base::Term, // PIPE
+    Base::Term, // ALRM
+    Base::Term, // TERM
+    Base::Term, // STKFLT
+    Base::Ignored, // CHLD
+    Base::Continue, // CONT
+    Base::Stop, // STOP
+    Base::Stop, // TSTP
+    Base::Stop, // TTIN
+    Base::Stop, // TTOU
+    Base::Ignored, // URG
+    Base::Core, // XCPU
+    Base::Core, // XFSZ
+    Base::Term, // VTALRM
+    Base::Term, // PROF
+    Base::Ignored, // WINCH
+    Base::Term, // IO
+    Base::Term, // PWR
+    Base::Core, // SYS
+];
+
 /// A signal. Contracts see its number, 1 to 64, as signal(7) has it on x86 and ARM.
 #[derive(Clone, Copy, Debug, PartialEq, Eq)]
 pub struct Signal {
@@ -60,13 +95,10 @@ impl Signal {
     pub fn default_action(self) -> Base
         ensures { result ≡ base_of self }
     {
-        match self.number {
-            3..=8 | 11 | 24 | 25 | 31 => Base::Core,
-            17 | 23 | 28 => Base::Ignored,
-            18 => Base::Continue,
-            19..=22 => Base::Stop,
-            _ => Base::Term,
+        if self.is_real_time() {
+            return Base::Term;
         }
+        NAMED[self.number as usize - 1]
     }
 
     /// Whether it is one of the four stop signals: STOP, TSTP, TTIN, TTOU (19 to 22).
