@@ -1,6 +1,5 @@
 -- Signals are the numbers 1 to 64: signal(7).
-use Rattle.std.specs.Prelude.{ℕ, ◌-◌, ◌≤◌, List, [], ◌∷◌}
-use Rattle.std.specs.Prelude.{slice_index_or}
+use Rattle.std.specs.Prelude.{ℕ, ◌-◌, ◌≤◌, Bool, ◌&&◌, nat_le, List, [], ◌∷◌, slice_index_or}
 use Rattle.tr_sigset.specs.declared.signals.Base.{Base}
 use Rattle.tr_sigset.specs.declared.signals.Base.TheVariants.{Term, Core, Ignored, Stop, Continue}
 
@@ -22,3 +21,10 @@ named_bases =
 -- what a signal does by default; a real-time one (32 to 64) ends the process
 abbrev pub base_of : ℕ → Base
 base_of n = slice_index_or named_bases (n - 1) Term
+
+-- STOP, TSTP, TTIN, TTOU
+abbrev pub is_stop : ℕ → Bool
+is_stop n = nat_le 19 n && nat_le n 22
+
+abbrev pub is_real_time : ℕ → Bool
+is_real_time n = nat_le 32 n

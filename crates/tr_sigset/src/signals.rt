@@ -1,5 +1,5 @@
-ghost use Rattle.std.specs.Prelude.{◌≡◌, ◌≤◌, ◌↔◌, IsTrue, SomeIff};
-ghost use Rattle.tr_sigset.specs.Signals.{IsSignal, base_of};
+ghost use Rattle.std.specs.Prelude.{◌≡◌, SomeIff};
+ghost use Rattle.tr_sigset.specs.Signals.{IsSignal, base_of, is_real_time, is_stop};
 
 use std::marker::Model;
 
@@ -103,14 +103,14 @@ impl Signal {
 
     /// Whether it is one of the four stop signals: STOP, TSTP, TTIN, TTOU (19 to 22).
     pub fn is_stop(self) -> bool
-        ensures { IsTrue result ↔ ((19 ≤ self) × (self ≤ 22)) }
+        ensures { result ≡ is_stop self }
     {
         19 <= self.number && self.number <= 22
     }
 
     /// Whether it is a real-time signal (32 to 64), whose instances queue and never merge.
     pub fn is_real_time(self) -> bool
-        ensures { IsTrue result ↔ (32 ≤ self) }
+        ensures { result ≡ is_real_time self }
     {
         32 <= self.number
     }
