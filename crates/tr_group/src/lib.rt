@@ -1,0 +1,7 @@
+//! Thread groups: actions, the group-stop, and what happens to all threads of a group at once, as signal(7) and
+//! ptrace(2) have it.
+#![tactic(auto)]
+
+mod stops;
+
+pub use stops::{Action, GroupStop};
