@@ -1,1 +1,16 @@
 pub mod Tables
+pub mod Work
+pub mod GroupStops
+pub mod Deaths
+pub mod Takes
+pub mod Sends
+pub mod Stops
+pub mod Ends
+pub mod Requests
+pub mod Execs
+pub mod Waits
+pub mod Causes
+pub mod Steps
+pub mod Preferred
+pub mod Journals
+pub mod Laws

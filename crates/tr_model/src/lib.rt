@@ -1,11 +1,13 @@
 //! The written model: what may happen to the table of threads and groups, and the laws of every journal of it.
 #![tactic(auto)]
 
+mod checked;
 mod events;
 mod fates;
 mod replies;
 mod rows;
 
+pub use checked::Checked;
 pub use events::{Choice, Entry, Event};
 pub use fates::{Ending, Fate, Totals};
 pub use replies::{Did, Refusal, Reply};

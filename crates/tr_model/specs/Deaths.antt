@@ -1,0 +1,28 @@
+-- How a group begins to die: exit_group(2), and "Death under ptrace" of ptrace(2).
+use Rattle.std.specs.Prelude.{ℕ, Bool, true, Option, Some, None}
+use Rattle.tr_tracee.specs.declared.life.End.{End}
+use Rattle.tr_tracee.specs.declared.life.End.TheVariants.{Killed}
+use Rattle.tr_tracee.specs.Ends.{broken}
+use Rattle.tr_tracee.specs.Threads.{throughout}
+use Rattle.tr_group.specs.declared.stops.GroupStop.TheVariants.{No}
+use Rattle.tr_model.specs.declared.fates.Fate.TheVariants.{Flushed}
+use Rattle.tr_model.specs.declared.rows.Group.{Group}
+use Rattle.tr_model.specs.Tables.{group_end}
+use Rattle.tr_model.specs.Work.{Work, become, only_group, regroup, tell_dying, tell_killed}
+
+-- a group that is dying keeps its end
+abbrev pub first_end : Option End → End → End
+first_end None e = e
+first_end (Some old) e = old
+
+abbrev pub dying_with : End → Group → Group
+dying_with e x = record x { end = Some (first_end x.end e); group_stop = No; note = None }
+
+-- each thread that isn't dead leaves with the group's end, and what it held is flushed
+abbrev pub begin_death : ℕ → End → Bool → Work → Work
+begin_death g e kill w =
+    tell_dying g (become Flushed (throughout g (broken kill (first_end (group_end w.table g) e))) (regroup (only_group g (dying_with e)) w))
+
+-- a delivered KILL
+abbrev pub kill_group : ℕ → Work → Work
+kill_group g w = begin_death g (Killed 9) true (tell_killed g w)

@@ -1,0 +1,52 @@
+-- clone(2) and execve(2): "execve(2) under ptrace" of ptrace(2).
+use Rattle.std.specs.Prelude.{ℕ, pos, Bool, not, ◌&&◌, Option, if◌then◌else◌, map, is_some}
+use Rattle.tr_tracee.specs.declared.life.End.TheVariants.{Exited}
+use Rattle.tr_tracee.specs.declared.life.Stop.TheVariants as stop
+use Rattle.tr_tracee.specs.declared.thread.Thread.{Thread}
+use Rattle.tr_tracee.specs.Ends.{broken_by_exec, execed, execing}
+use Rattle.tr_tracee.specs.Threads.{is_leader, is_traced, only, options_of, seized, throughout}
+use Rattle.tr_group.specs.Actions.{reset}
+use Rattle.tr_model.specs.declared.fates.Fate.TheVariants.{Flushed}
+use Rattle.tr_model.specs.declared.rows.Group.{Group}
+use Rattle.tr_model.specs.declared.rows.Target.TheVariants as target
+use Rattle.tr_model.specs.Sends.{info, send}
+use Rattle.tr_model.specs.Tables.{Table, others_dead, stop_in_effect}
+use Rattle.tr_model.specs.Work.{Work, alter, at, become, enqueue, enter, only_group, regroup, spawn, take_place, when}
+
+-- Clone
+
+-- the parent stops, and an attached child gets a SIGSTOP
+abbrev pub clone_stop : Thread → ℕ → Work → Work
+clone_stop t id w = when (not (seized t.trace)) (enqueue 19 (info (pos 0) 0 (pos 0)) (target.Thread id)) (enter t.id (stop.Clone id) w)
+
+abbrev pub clone : Thread → ℕ → Work → Work
+clone t id w = when (options_of t.trace).clone (clone_stop t id) (spawn t.id id (is_some (stop_in_effect w.table t.group)) w)
+
+-- Exec
+
+abbrev pub with_reset : Group → Group
+with_reset x = record x { actions = map reset x.actions }
+
+-- an attached tracee without option exec gets a SIGTRAP
+abbrev pub trap_new : Thread → Work → Work
+trap_new t w = when (is_traced t && not (seized t.trace)) (send 5 (info (pos 0) t.id (pos 0)) (target.Thread t.id)) w
+
+-- the thread, which had this id before, has a new program
+abbrev pub new_program : ℕ → Thread → Work → Work
+new_program former t w =
+    let x = regroup (only_group t.group with_reset) w in
+    if (options_of t.trace).exec then enter t.id (stop.Exec former) x else trap_new t x
+
+-- the other threads begin to leave
+abbrev pub break_others : ℕ → ℕ → Work → Work
+break_others g id w = become Flushed (throughout g (broken_by_exec id (Exited 0))) w
+
+-- a leader without other threads has its new program at once; any other thread waits for their deaths
+abbrev pub exec : Thread → Work → Work
+exec t w =
+    if is_leader t && others_dead w.table t then new_program t.id t w
+    else alter (only t.id execing) (break_others t.group t.id w)
+
+-- then it is the leader
+abbrev pub finish : Thread → Work → Work
+finish t w = at t.group (new_program t.id) (alter (only t.group execed) (take_place t.id w))

@@ -1,0 +1,100 @@
+-- The choices that this product makes where the model leaves one, and what a check answers with them.
+use Rattle.std.specs.Prelude.{ℕ, ◌+◌, ◌-◌, zero, suc, List, [], ◌∷◌, Bool, true, false, Option, Some, None, Result, Ok, Err, if◌then◌else◌}
+use Rattle.tr_pending.specs.declared.instance.Instance.{Instance}
+use Rattle.tr_pending.specs.Waiting.{best_of}
+use Rattle.tr_tracee.specs.declared.thread.Thread.{Thread}
+use Rattle.tr_tracee.specs.Threads.{is_ready_to_take}
+use Rattle.tr_model.specs.declared.checked.Checked.{Checked}
+use Rattle.tr_model.specs.declared.checked.Checked.TheVariants.{Quiet, Due}
+use Rattle.tr_model.specs.declared.events.Choice.{Choice}
+use Rattle.tr_model.specs.declared.events.Event.{Event}
+use Rattle.tr_model.specs.declared.events.Event.TheVariants as event
+use Rattle.tr_model.specs.declared.replies.Refusal.{Refusal}
+use Rattle.tr_model.specs.declared.replies.Refusal.TheVariants.{Unmodelled}
+use Rattle.tr_model.specs.declared.replies.Reply.{Reply}
+use Rattle.tr_model.specs.declared.rows.Target.TheVariants as target
+use Rattle.tr_model.specs.Causes.{cause_of, quiet_of}
+use Rattle.tr_model.specs.Steps.{gives_id, gives_report, is_new, no_choice, takes_by, takes_instance}
+use Rattle.tr_model.specs.Tables.{Table, members, queue, thread_of}
+use Rattle.tr_model.specs.Takes.{can_take}
+use Rattle.tr_model.specs.Waits.{ready, ready_for_starter}
+
+-- Takes: the own queue before the shared one, the least number first, by the first thread in table order
+
+abbrev pub or_other : Option Instance → Option Instance → Option Instance
+or_other None j = j
+or_other (Some i) j = Some i
+
+abbrev pub best_for : Table → Thread → Option Instance
+best_for T t = if is_ready_to_take t then or_other (best_of t.mask (queue T (target.Thread t.id))) (best_of t.mask (queue T (target.Group t.group))) else None
+
+abbrev pub taking : Option Instance → Choice
+taking None = no_choice
+taking (Some i) = takes_instance i.n
+
+abbrev pub taking_by : ℕ → Option Instance → Choice
+taking_by id None = no_choice
+taking_by id (Some i) = takes_by id i.n
+
+abbrev pub take_choice : Table → Option Thread → Choice
+take_choice T None = no_choice
+take_choice T (Some t) = taking (best_for T t)
+
+abbrev pub take_any_choice : Table → List Thread → Choice
+take_any_choice T [] = no_choice
+take_any_choice T (t ∷ ts) = if can_take T t then taking_by t.id (best_for T t) else take_any_choice T ts
+
+-- Waits: the first report in table order
+
+abbrev pub reporting : List ℕ → Choice
+reporting [] = no_choice
+reporting (r ∷ rs) = gives_report r
+
+-- Clones: the least free id above the group's, past the greatest id from 2 up
+
+abbrev pub least_new : Table → ℕ → ℕ → Option ℕ
+least_new T zero id = None
+least_new T (suc tries) id = let later = least_new T tries (id + 1) in if is_new T id then Some id else later
+
+abbrev pub or_from_2 : Table → Option ℕ → ℕ
+or_from_2 T (Some id) = id
+or_from_2 T None = or_none (least_new T 4194302 2)
+  where
+    or_none : Option ℕ → ℕ
+    or_none None = 0
+    or_none (Some id) = id
+
+abbrev pub new_id : Table → ℕ → ℕ
+new_id T g = or_from_2 T (least_new T (4194303 - g) (g + 1))
+
+abbrev pub clone_choice : Table → Option Thread → Choice
+clone_choice T None = no_choice
+clone_choice T (Some t) = gives_id (new_id T t.group)
+
+abbrev pub preferred : Table → ℕ → Event → Choice
+preferred T a (event.Take id) = take_choice T (thread_of T id)
+preferred T a (event.TakeAny g) = take_any_choice T (members T g)
+preferred T a (event.Wait which) = reporting (ready T a which)
+preferred T a (event.StarterWait which flags) = reporting (ready_for_starter T which flags)
+preferred T a (event.CloneThread id) = clone_choice T (thread_of T id)
+preferred T a _ = no_choice
+
+-- What a check answers
+
+abbrev pub quiet_or : Option Reply → Choice → Result Checked Refusal
+quiet_or (Some r) c = Ok (Quiet r)
+quiet_or None c = Ok (Due c)
+
+abbrev pub refused_or : Option Refusal → Result Checked Refusal → Result Checked Refusal
+refused_or (Some why) r = Err why
+refused_or None r = r
+
+-- the events that the kernel serves so far
+abbrev pub is_served : Event → Bool
+is_served (event.Kill g s) = true
+is_served (event.Mask id set) = true
+is_served (event.Take id) = true
+is_served _ = false
+
+abbrev pub checked : Table → ℕ → Event → Result Checked Refusal
+checked T a e = if is_served e then refused_or (cause_of T a e) (quiet_or (quiet_of T a e) (preferred T a e)) else Err Unmodelled

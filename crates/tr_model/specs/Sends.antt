@@ -1,0 +1,96 @@
+-- What becomes of an accepted signal: kill(2), tgkill(2), sigqueue(3), and signal(7).
+use Rattle.std.specs.Prelude.{ℕ, ◌-◌, zero, suc, ◌==◌, ℤ, List, [], ◌∷◌, Bool, true, false, not, ◌&&◌, Option, Some, None, if◌then◌else◌, is_some}
+use Rattle.std.specs.List.{list_any}
+use Rattle.tr_sigset.specs.Sets.{has}
+use Rattle.tr_sigset.specs.Signals.{is_stop}
+use Rattle.tr_pending.specs.declared.instance.Info.{Info}
+use Rattle.tr_pending.specs.Waiting.{merges}
+use Rattle.tr_tracee.specs.declared.thread.Thread.{Thread}
+use Rattle.tr_tracee.specs.Lives.{is_live}
+use Rattle.tr_tracee.specs.Marks.{cont_noted}
+use Rattle.tr_tracee.specs.Threads.{is_traced, throughout}
+use Rattle.tr_group.specs.declared.stops.Action.{Action}
+use Rattle.tr_group.specs.Actions.{ignoring}
+use Rattle.tr_model.specs.declared.fates.Fate.TheVariants.{Merged, Delivered, Flushed}
+use Rattle.tr_model.specs.declared.rows.Group.{Group}
+use Rattle.tr_model.specs.declared.rows.Target.{Target}
+use Rattle.tr_model.specs.declared.rows.Target.TheVariants as target
+use Rattle.tr_model.specs.Deaths.{kill_group}
+use Rattle.tr_model.specs.GroupStops.{continue_all}
+use Rattle.tr_model.specs.Tables.{Table, action_of, all_dead, has_live, has_traced, is_dying, members, owner, queue, thread_of}
+use Rattle.tr_model.specs.Work.{Work, accept_as, alter, end_waiting, enqueue, only_group, regroup, when}
+
+abbrev pub info : ℤ → ℕ → ℤ → Info
+info code pid value = record { code = code; pid = pid; value = value }
+
+abbrev pub is_cont : ℕ → Bool
+is_cont s = s == 18
+
+-- instances of these signals in all queues of the group are flushed
+abbrev pub flush_in : ℕ → (ℕ → Bool) → Work → Work
+flush_in g p w = end_waiting Flushed (λ q. p q.instance.sig && owner w.table q.target == g) w
+
+-- First: KILL is delivered at once, whichever thread it aims at; a group whose threads are all dead flushes it.
+
+abbrev pub send_kill : ℕ → Work → Work
+send_kill g w = if all_dead w.table g then accept_as Flushed w else kill_group g (accept_as Delivered w)
+
+-- Second: in a dying group, or at what isn't live, it is flushed.
+
+abbrev pub is_live_thread : Option Thread → Bool
+is_live_thread None = false
+is_live_thread (Some t) = is_live t.life
+
+abbrev pub is_reachable : Table → Target → Bool
+is_reachable T (target.Thread id) = is_live_thread (thread_of T id) && not (is_dying T (owner T (target.Thread id)))
+is_reachable T (target.Group g) = has_live T g && not (is_dying T g)
+
+-- Third: a stop signal flushes SIGCONT; SIGCONT flushes stop signals and continues the group, even where it is blocked,
+-- ignored or caught.
+
+abbrev pub continue_by_signal : ℕ → Work → Work
+continue_by_signal g w = continue_all g (alter (throughout g cont_noted) (flush_in g is_stop w))
+
+abbrev pub before_send : ℕ → ℕ → Work → Work
+before_send s g w = if is_stop s then flush_in g is_cont w else when (is_cont s) (continue_by_signal g) w
+
+-- Fourth: where the action ignores it, it is flushed if nobody there is traced or blocks it.
+
+abbrev pub is_open_thread : ℕ → Option Thread → Bool
+is_open_thread s None = false
+is_open_thread s (Some t) = not (is_traced t) && not (has t.mask s)
+
+abbrev pub is_open : Table → ℕ → Target → Bool
+is_open T s (target.Thread id) = is_open_thread s (thread_of T id)
+is_open T s (target.Group g) = not (has_traced T g) && not (list_any (λ t. is_live t.life && has t.mask s) (members T g))
+
+abbrev pub is_ignored : Table → ℕ → Target → Bool
+is_ignored T s q = ignoring (action_of T (owner T q) s) s && is_open T s q
+
+-- Fifth: a standard signal that waits in the same queue already merges. Sixth: else it is pending.
+
+abbrev pub put : ℕ → Info → Target → Work → Work
+put s i q w = if merges s (queue w.table q) then accept_as Merged w else enqueue s i q w
+
+abbrev pub put_unless_ignored : ℕ → Info → Target → Work → Work
+put_unless_ignored s i q w = if is_ignored w.table s q then accept_as Flushed w else put s i q w
+
+abbrev pub send_other : ℕ → Info → Target → Work → Work
+send_other s i q w = if is_reachable w.table q then put_unless_ignored s i q (before_send s (owner w.table q) w) else accept_as Flushed w
+
+-- the rules in their order
+abbrev pub send : ℕ → Info → Target → Work → Work
+send s i q w = if s == 9 then send_kill (owner w.table q) w else send_other s i q w
+
+-- sigaction(2): a new action that ignores flushes what waits of that signal in the group's queues
+
+abbrev pub set_at : ℕ → Action → List Action → List Action
+set_at k how [] = []
+set_at zero how (x ∷ xs) = how ∷ xs
+set_at (suc k) how (x ∷ xs) = x ∷ set_at k how xs
+
+abbrev pub with_action : ℕ → Action → Group → Group
+with_action s how x = record x { actions = set_at (s - 1) how x.actions }
+
+abbrev pub set_action : ℕ → Action → Thread → Work → Work
+set_action s how t w = when (ignoring how s) (flush_in t.group (λ n. n == s)) (regroup (only_group t.group (with_action s how)) w)

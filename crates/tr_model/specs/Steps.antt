@@ -1,0 +1,169 @@
+-- A step: which choices the table admits, and what table and entry lead to.
+use Rattle.std.specs.Prelude.{◌≡◌, ℕ, ◌+◌, ℤ, pos, negsuc, List, [], ◌∷◌, Bool, true, false, not, ◌&&◌, ◌||◌, ◌==◌, nat_le, Option, Some, None, if◌then◌else◌, is_some, IsTrue}
+use Rattle.tr_pending.specs.declared.instance.Instance.{Instance}
+use Rattle.tr_wait.specs.Words.{word}
+use Rattle.tr_tracee.specs.declared.thread.Report.{Report}
+use Rattle.tr_tracee.specs.declared.thread.Thread.{Thread}
+use Rattle.tr_tracee.specs.Marks.{masked, paused}
+use Rattle.tr_tracee.specs.Stops.{interrupted, set_options}
+use Rattle.tr_tracee.specs.Threads.{only}
+use Rattle.tr_model.specs.declared.events.Choice.{Choice}
+use Rattle.tr_model.specs.declared.events.Entry.{Entry}
+use Rattle.tr_model.specs.declared.events.Event.{Event}
+use Rattle.tr_model.specs.declared.events.Event.TheVariants as event
+use Rattle.tr_model.specs.declared.fates.Ending.{Ending}
+use Rattle.tr_model.specs.declared.fates.Fate.{Fate}
+use Rattle.tr_model.specs.declared.fates.Fate.TheVariants.{Pending}
+use Rattle.tr_model.specs.declared.replies.Reply.{Reply}
+use Rattle.tr_model.specs.declared.replies.Reply.TheVariants as reply
+use Rattle.tr_model.specs.declared.rows.Group.{Group}
+use Rattle.tr_model.specs.declared.rows.Target.TheVariants as target
+use Rattle.tr_model.specs.Causes.{cause_of, quiet_of}
+use Rattle.tr_model.specs.Ends
+use Rattle.tr_model.specs.Execs
+use Rattle.tr_model.specs.GroupStops.{settle}
+use Rattle.tr_model.specs.Requests
+use Rattle.tr_model.specs.Sends
+use Rattle.tr_model.specs.Sends.{info}
+use Rattle.tr_model.specs.Stops
+use Rattle.tr_model.specs.Tables.{Table, group_of, thread_of}
+use Rattle.tr_model.specs.Takes
+use Rattle.tr_model.specs.Takes.{choices, numbered}
+use Rattle.tr_model.specs.Waits
+use Rattle.tr_model.specs.Waits.{ready_death, ready_note, ready_thread}
+use Rattle.tr_model.specs.Work.{Work, alter, at, begin, instance_in, on_thread}
+
+-- Free choices
+
+abbrev pub no_choice : Choice
+no_choice = record { thread = None; instance = None; report = None; new_id = None }
+
+abbrev pub takes_instance : ℕ → Choice
+takes_instance n = record { thread = None; instance = Some n; report = None; new_id = None }
+
+abbrev pub takes_by : ℕ → ℕ → Choice
+takes_by id n = record { thread = Some id; instance = Some n; report = None; new_id = None }
+
+abbrev pub gives_report : ℕ → Choice
+gives_report r = record { thread = None; instance = None; report = Some r; new_id = None }
+
+abbrev pub gives_id : ℕ → Choice
+gives_id id = record { thread = None; instance = None; report = None; new_id = Some id }
+
+abbrev pub takes : Table → Option Thread → ℕ → Bool
+takes T None n = false
+takes T (Some t) n = is_some (numbered n (choices T t))
+
+abbrev pub is_of : ℕ → Option Thread → Bool
+is_of g None = false
+is_of g (Some t) = t.group == g
+
+-- an id from 2 to 4,194,303 that is no thread's and no group's
+abbrev pub is_new : Table → ℕ → Bool
+is_new T id = nat_le 2 id && (nat_le id 4194303 && (not (is_some (thread_of T id)) && not (is_some (group_of T id))))
+
+-- the choices that an event may have
+abbrev pub Admits : Table → ℕ → Event → Choice → Type 0
+Admits T a (event.Take id) c = (n : ℕ) × (c ≡ takes_instance n) × IsTrue (takes T (thread_of T id) n)
+Admits T a (event.TakeAny g) c = (id : ℕ) × (n : ℕ) × (c ≡ takes_by id n) × IsTrue (is_of g (thread_of T id)) × IsTrue (takes T (thread_of T id) n)
+Admits T a (event.Wait which) c = (r : ℕ) × (c ≡ gives_report r) × IsTrue (is_some (ready_thread T a which r))
+Admits T a (event.StarterWait which flags) c = (r : ℕ) × (c ≡ gives_report r) × IsTrue (is_some (ready_death T which r) || is_some (ready_note T which flags r))
+Admits T a (event.CloneThread id) c = (new : ℕ) × (c ≡ gives_id new) × IsTrue (is_new T new)
+Admits T a _ c = c ≡ no_choice
+
+-- What an entry does
+
+abbrev pub number : Option ℕ → ℕ
+number None = 0
+number (Some n) = n
+
+-- si_code: SI_USER by kill(2), SI_TKILL by tgkill(2), SI_QUEUE by sigqueue(3)
+abbrev pub does : ℕ → Event → Choice → Work → Work
+does a (event.Kill g s) c w = Sends.send s (info (pos 0) a (pos 0)) (target.Group g) w
+does a (event.Tgkill g id s) c w = Sends.send s (info (negsuc 5) a (pos 0)) (target.Thread id) w
+does a (event.Sigqueue g s v) c w = Sends.send s (info (negsuc 0) a v) (target.Group g) w
+does a (event.Mask id set) c w = alter (only id (masked set)) w
+does a (event.SetAction id s how) c w = at id (Sends.set_action s how) w
+does a (event.Pause id) c w = alter (only id (paused true)) w
+does a (event.Take id) c w = at id (Takes.take_numbered (number c.instance)) w
+does a (event.TakeAny g) c w = at (number c.thread) (Takes.take_numbered (number c.instance)) w
+does a (event.Halt id) c w = at id Stops.halt w
+does a (event.Trap id) c w = at id Stops.trap w
+does a (event.Die id) c w = at id (λ t. Ends.die t t.life) w
+does a (event.CloneThread id) c w = at id (λ t. Execs.clone t (number c.new_id)) w
+does a (event.Exec id) c w = at id Execs.exec w
+does a (event.Finish id) c w = at id Execs.finish w
+does a (event.Exit id code) c w = at id (λ t. Ends.exit t code) w
+does a (event.ExitGroup id code) c w = at id (Ends.exit_group code) w
+does a (event.Attach id) c w = at id (Requests.attach a) w
+does a (event.Seize id o) c w = at id (Requests.seize a o) w
+does a (event.Interrupt id) c w = alter (only id interrupted) w
+does a (event.Cont id s) c w = at id (Requests.restart s) w
+does a (event.Listen id) c w = at id Requests.listen w
+does a (event.Detach id s) c w = at id (Requests.detach s) w
+does a (event.SetOptions id o) c w = alter (only id (set_options o)) w
+does a (event.EventMessage id) c w = w
+does a (event.SignalInfo id) c w = w
+does a event.TracerExit c w = Requests.tracer_exit a w
+does a (event.Wait which) c w = on_thread (ready_thread w.table a which (number c.report)) Waits.consume w
+does a (event.StarterWait which flags) c w = Waits.starter_takes (ready_death w.table which (number c.report)) (ready_note w.table which flags (number c.report)) w
+
+-- all that an entry does to a table
+abbrev pub work_of : Table → Entry → Work
+work_of T e = settle (does e.actor e.event e.choice (begin T))
+
+-- Replies, by the table before and the work done
+
+abbrev pub fate_in : List Ending → ℕ → Fate
+fate_in [] n = Pending
+fate_in (e ∷ es) n = if e.number == n then e.fate else fate_in es n
+
+-- the first signal that the entry accepted, and its fate right after the step
+abbrev pub sent : Table → Work → Reply
+sent T w = reply.Sent (T.accepted + 1) (fate_in w.ended (T.accepted + 1))
+
+abbrev pub took : Table → Option Thread → Option Instance → Reply
+took T None i = reply.Nothing
+took T (Some t) None = reply.Nothing
+took T (Some t) (Some i) = reply.Took t.id i (Takes.took T t i)
+
+abbrev pub waited : ℕ → Option Report → Reply
+waited id None = reply.Nothing
+waited id (Some r) = reply.Waited id (word r.status) r.number
+
+abbrev pub waited_note : Option Group → Reply
+waited_note None = reply.Nothing
+waited_note (Some g) = waited g.tgid g.note
+
+abbrev pub waited_thread : Option Thread → Option Group → Reply
+waited_thread (Some t) g = waited t.id t.report
+waited_thread None g = waited_note g
+
+abbrev pub reply_of : Table → ℕ → Event → Choice → Work → Reply
+reply_of T a (event.Kill g s) c w = sent T w
+reply_of T a (event.Tgkill g id s) c w = sent T w
+reply_of T a (event.Sigqueue g s v) c w = sent T w
+reply_of T a (event.Attach id) c w = sent T w
+reply_of T a (event.Take id) c w = took T (thread_of T id) (instance_in T.waiting (number c.instance))
+reply_of T a (event.TakeAny g) c w = took T (thread_of T (number c.thread)) (instance_in T.waiting (number c.instance))
+reply_of T a (event.CloneThread id) c w = reply.Cloned (number c.new_id)
+reply_of T a (event.Wait which) c w = waited_thread (ready_thread T a which (number c.report)) None
+reply_of T a (event.StarterWait which flags) c w = waited_thread (ready_death T which (number c.report)) (ready_note T which flags (number c.report))
+reply_of T a _ c w = reply.Done
+
+-- The step relation
+
+pub record Outcome : Type 0 where
+  pub reply : Reply
+  pub work : Work
+
+abbrev pub after : Table → Entry → Outcome
+after T e = let w = work_of T e in record { reply = reply_of T e.actor e.event e.choice w; work = w }
+
+-- Not refused, not quiet, an admitted choice: then reply and table follow.
+pub record Step (T : Table) (e : Entry) (r : Reply) (U : Table) : Type 0 where
+  pub not_refused : cause_of T e.actor e.event ≡ None
+  pub not_quiet : quiet_of T e.actor e.event ≡ None
+  pub choice : Admits T e.actor e.event e.choice
+  pub reply : r ≡ (after T e).reply
+  pub table : U ≡ (after T e).work.table
