@@ -8,7 +8,7 @@ use Rattle.tr_group.specs.declared.stops.GroupStop.TheVariants.{No}
 use Rattle.tr_model.specs.declared.fates.Fate.TheVariants.{Flushed}
 use Rattle.tr_model.specs.declared.rows.Group.{Group}
 use Rattle.tr_model.specs.Tables.{group_end}
-use Rattle.tr_model.specs.Work.{Work, become, only_group, regroup, tell_dying, tell_killed}
+use Rattle.tr_model.specs.Moves.{Work, become, only_group, regroup, tell_dying, tell_killed}
 
 -- a group that is dying keeps its end
 abbrev pub first_end : Option End → End → End

@@ -15,7 +15,7 @@ use Rattle.tr_model.specs.declared.fates.Fate.TheVariants.{Flushed}
 use Rattle.tr_model.specs.declared.rows.Target.TheVariants as target
 use Rattle.tr_model.specs.Deaths.{begin_death, first_end}
 use Rattle.tr_model.specs.Tables.{Table, all_dead, group_end, same_target}
-use Rattle.tr_model.specs.Work.{Work, alter, at, drop_empty, end_waiting, enter, remove_dead, report_death, when}
+use Rattle.tr_model.specs.Moves.{Work, alter, at, drop_empty, end_waiting, enter, remove_dead, report_death, when}
 
 -- the low byte of a code counts
 abbrev pub exited : ℕ → End

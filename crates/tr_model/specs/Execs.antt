@@ -11,7 +11,7 @@ use Rattle.tr_model.specs.declared.rows.Group.{Group}
 use Rattle.tr_model.specs.declared.rows.Target.TheVariants as target
 use Rattle.tr_model.specs.Sends.{info, send}
 use Rattle.tr_model.specs.Tables.{Table, others_dead, stop_in_effect}
-use Rattle.tr_model.specs.Work.{Work, alter, at, become, enqueue, enter, only_group, regroup, spawn, take_place, when}
+use Rattle.tr_model.specs.Moves.{Work, alter, at, become, enqueue, enter, only_group, regroup, spawn, take_place, when}
 
 -- Clone
 

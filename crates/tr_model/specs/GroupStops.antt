@@ -8,7 +8,7 @@ use Rattle.tr_group.specs.declared.stops.GroupStop.TheVariants.{No}
 use Rattle.tr_group.specs.GroupStops.{begun, completed, is_complete, is_stopping}
 use Rattle.tr_model.specs.declared.rows.Group.{Group}
 use Rattle.tr_model.specs.Tables.{Table, group_of, has_stop_mark, has_traced, stop_in_effect, stop_of}
-use Rattle.tr_model.specs.Work.{Work, alter, each, note, only_group, regroup, when}
+use Rattle.tr_model.specs.Moves.{Work, alter, each, note, only_group, regroup, when}
 
 -- Beginning
 

@@ -23,7 +23,7 @@ use Rattle.tr_model.specs.declared.rows.Waiting.{Waiting}
 use Rattle.tr_model.specs.Steps.{Step, number, work_of}
 use Rattle.tr_model.specs.Tables.{Table, thread_of}
 use Rattle.tr_model.specs.Takes.{choices_from, numbered}
-use Rattle.tr_model.specs.Work.{Raise, Work}
+use Rattle.tr_model.specs.Moves.{Raise, Work}
 
 -- Lists
 

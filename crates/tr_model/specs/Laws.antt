@@ -26,7 +26,7 @@ use Rattle.tr_model.specs.Preferred.{preferred}
 use Rattle.tr_model.specs.Steps.{Admits, Step, work_of}
 use Rattle.tr_model.specs.Tables.{Table, thread_of}
 use Rattle.tr_model.specs.Waits.{ready_thread}
-use Rattle.tr_model.specs.Work.{Work}
+use Rattle.tr_model.specs.Moves.{Work}
 
 -- One fate
 

@@ -1,5 +1,5 @@
 pub mod Tables
-pub mod Work
+pub mod Moves
 pub mod GroupStops
 pub mod Deaths
 pub mod Takes

@@ -16,7 +16,7 @@ use Rattle.tr_model.specs.Sends.{info, put, send}
 use Rattle.tr_model.specs.Stops.{show_stop}
 use Rattle.tr_model.specs.Tables.{Table, stop_in_effect}
 use Rattle.tr_model.specs.Takes.{act_on}
-use Rattle.tr_model.specs.Work.{Work, accept_as, alter, at, changing, each, when}
+use Rattle.tr_model.specs.Moves.{Work, accept_as, alter, at, changing, each, when}
 
 -- Tracing
 

@@ -18,7 +18,7 @@ use Rattle.tr_model.specs.declared.rows.Target.TheVariants as target
 use Rattle.tr_model.specs.Deaths.{kill_group}
 use Rattle.tr_model.specs.GroupStops.{continue_all}
 use Rattle.tr_model.specs.Tables.{Table, action_of, all_dead, has_live, has_traced, is_dying, members, owner, queue, thread_of}
-use Rattle.tr_model.specs.Work.{Work, accept_as, alter, end_waiting, enqueue, only_group, regroup, when}
+use Rattle.tr_model.specs.Moves.{Work, accept_as, alter, end_waiting, enqueue, only_group, regroup, when}
 
 abbrev pub info : ℤ → ℕ → ℤ → Info
 info code pid value = record { code = code; pid = pid; value = value }

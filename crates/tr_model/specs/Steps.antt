@@ -31,7 +31,7 @@ use Rattle.tr_model.specs.Takes
 use Rattle.tr_model.specs.Takes.{choices, numbered}
 use Rattle.tr_model.specs.Waits
 use Rattle.tr_model.specs.Waits.{ready_death, ready_note, ready_thread}
-use Rattle.tr_model.specs.Work.{Work, alter, at, begin, instance_in, on_thread}
+use Rattle.tr_model.specs.Moves.{Work, alter, at, begin, instance_in, on_thread}
 
 -- Free choices
 

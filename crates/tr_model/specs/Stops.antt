@@ -8,7 +8,7 @@ use Rattle.tr_tracee.specs.Lives.{is_stopped}
 use Rattle.tr_tracee.specs.Marks.{joining, stopped}
 use Rattle.tr_tracee.specs.Threads.{is_traced, only, seized}
 use Rattle.tr_model.specs.Tables.{stop_in_effect}
-use Rattle.tr_model.specs.Work.{Work, alter, at, enter, when}
+use Rattle.tr_model.specs.Moves.{Work, alter, at, enter, when}
 
 -- with the signal of the group-stop in effect
 abbrev pub at_stop : Option ℕ → (ℕ → Work → Work) → Work → Work

@@ -22,7 +22,7 @@ use Rattle.tr_model.specs.declared.rows.Target.TheVariants as target
 use Rattle.tr_model.specs.Deaths.{begin_death, kill_group}
 use Rattle.tr_model.specs.GroupStops.{initiate}
 use Rattle.tr_model.specs.Tables.{Table, action_of, queue}
-use Rattle.tr_model.specs.Work.{Work, alter, end_waiting, hold, on_instance, when}
+use Rattle.tr_model.specs.Moves.{Work, alter, end_waiting, hold, on_instance, when}
 
 -- Choosing
 

@@ -14,7 +14,7 @@ use Rattle.tr_model.specs.declared.rows.Group.{Group}
 use Rattle.tr_model.specs.Ends.{pass_on, remove_thread}
 use Rattle.tr_model.specs.Requests.{tracees}
 use Rattle.tr_model.specs.Tables.{Table, has_traced, thread_of}
-use Rattle.tr_model.specs.Work.{Work, alter, only_group, regroup}
+use Rattle.tr_model.specs.Moves.{Work, alter, only_group, regroup}
 
 abbrev pub report_number : Option Report → List ℕ
 report_number None = []
