@@ -142,10 +142,13 @@ abbrev pub is_fate : Fate → Option Fate → Bool
 is_fate f None = false
 is_fate f (Some g) = same_fate f g
 
+abbrev pub counts : Fate → Option Fate → ℕ
+counts f o = if is_fate f o then 1 else 0
+
 -- how many of the numbers 1 to k have a fate
 abbrev pub how_many : Table → List Entry → Table → Fate → ℕ → ℕ
 how_many T es U f zero = 0
-how_many T es U f (suc k) = (if is_fate f (fate_of T es U (suc k)) then 1 else 0) + how_many T es U f k
+how_many T es U f (suc k) = counts f (fate_of T es U (suc k)) + how_many T es U f k
 
 abbrev pub totals : Table → List Entry → Table → Totals
 totals T es U = record {

@@ -112,6 +112,9 @@ raising f t s w =
       raises = w.raises ++ record { number = w.table.raised + 1; whom = tracer_of t.trace; id = t.id; status = s } ∷ [];
     }
 
+abbrev pub raise : Thread → Status → Work → Work
+raise t s w = raising (reported (w.table.raised + 1) s) t s w
+
 abbrev pub entered_now : Stop → Thread → Work → Work
 entered_now s t w = raising (entered_as (w.table.raised + 1) s) t (status_of_stop s) w
 
@@ -123,7 +126,7 @@ abbrev pub enter : ℕ → Stop → Work → Work
 enter id s w = at id (entering s) w
 
 abbrev pub report_dead : End → Thread → Work → Work
-report_dead e t w = if is_dead t.life then raising (reported (w.table.raised + 1) (status_of_end e)) t (status_of_end e) w else w
+report_dead e t w = if is_dead t.life then raise t (status_of_end e) w else w
 
 -- the death report of a dead thread
 abbrev pub report_death : ℕ → End → Work → Work

@@ -1,0 +1,169 @@
+-- The fates of the accepted numbers.
+use Rattle.std.proofs.Common.{◌≡◌, ◌≢◌, ℕ, zero, suc, ◌+◌, ◌<◌, ◌≤◌, ℤ, List, [], ◌∷◌, ◌++◌, true, false, Some, None, Option, refl, sym, ap, ◌∙◌, map, flat_map, filter, Bool, not, ◌&&◌, ◌||◌, ◌==◌, ◌⊎◌, inl, inr, if◌then◌else◌, is_some, arith, cond, nat_le, nat_lt, true≢false, add-one, append-nil, append_assoc, subst, ⊎_elim, ap₂, slice_get}
+use Rattle.std.proofs.lemmas.Bool.{le-leb, cases_lt, or_right, ltb-false, eqb-false, eqb-true, and_parts, and_from, cases_eq, ne_eqb, eq-eqb}
+use Rattle.tr_pending.specs.declared.instance.Info.{Info}
+use Rattle.tr_pending.specs.declared.instance.Instance.{Instance}
+use Rattle.tr_tracee.specs.declared.life.Life.{Life}
+use Rattle.tr_tracee.specs.declared.life.Life.TheVariants as life
+use Rattle.tr_tracee.specs.declared.thread.Report.{Report}
+use Rattle.tr_sigset.specs.declared.signals.Signal.{Signal}
+use Rattle.tr_wait.specs.declared.status.Status.{Status}
+use Rattle.tr_wait.specs.declared.status.Status.TheVariants as status
+use Rattle.tr_tracee.specs.declared.life.Stop.{Stop}
+use Rattle.tr_tracee.specs.declared.life.Stop.TheVariants as stop
+use Rattle.tr_model.specs.declared.rows.Target.{Target}
+use Rattle.tr_model.specs.declared.rows.Target.TheVariants as target
+use Rattle.std.specs.List.{list_all}
+use Rattle.tr_tracee.specs.declared.thread.Thread.{Thread}
+use Rattle.tr_tracee.specs.declared.thread.Trace.{Trace}
+use Rattle.tr_model.specs.declared.events.Choice.{Choice}
+use Rattle.tr_model.specs.declared.events.Event.{Event}
+use Rattle.tr_model.specs.declared.events.Event.TheVariants as event
+use Rattle.tr_model.specs.declared.events.Entry.{Entry}
+use Rattle.tr_model.specs.declared.fates.Fate.{Fate}
+use Rattle.tr_model.specs.declared.fates.Fate.TheVariants.{Pending, Merged, Delivered, Suppressed, Flushed}
+use Rattle.tr_model.specs.declared.replies.Reply.{Reply}
+use Rattle.tr_model.proofs.Every.{each_map, each_weaker, each-append, each_filter, each_found, each_changed, each_dropped, is_in-append}
+use Rattle.tr_model.proofs.Kept.{act_on-kept, does-kept, Calm, Tame, CalmGroup, Kept, any, calm_throughout, calm_broken, calm_broken_by_exec, calm_restarted, calm_listening, calm_group, without_note, tame_only, tame_released, tame_told_nothing, tracer_is, always-kept, settle-kept, itself}
+use Rattle.tr_model.proofs.OneFate.{waits, one, gone, holds, Sound, born_within, occurs-append, waits_is, held_is, born_past, born_small, replay_sound, start_sound}
+use Rattle.tr_model.proofs.Measures.{total, total-append, total_changed, total_dropped, total_same, total_less, total_filter, total_removed, may_enter_holds, free_may, dead_holds, execing_holds}
+use Rattle.tr_model.specs.declared.rows.Waiting.{Waiting}
+use Rattle.tr_model.specs.declared.rows.Group.{Group}
+use Rattle.tr_model.specs.declared.fates.Ending.{Ending}
+use Rattle.tr_model.specs.Journals.{IsIn, Taken}
+use Rattle.tr_model.specs.Laws.{PassesOn}
+use Rattle.tr_model.specs.Moves.{Raise, Work}
+use Rattle.tr_model.specs.Tables.{Table}
+use Rattle.tr_tracee.specs.Lives.{held}
+use Rattle.tr_model.specs.Journals
+use Rattle.tr_model.specs.Laws
+
+abbrev ending : ℕ → Fate → Ending
+ending n f = record { number = n; fate = f }
+
+five : (o : Fate) → Journals.counts Pending (Some o) + Journals.counts Merged (Some o) + Journals.counts Delivered (Some o) + Journals.counts Suppressed (Some o) + Journals.counts Flushed (Some o) ≡ 1
+five Pending = refl
+five Merged = refl
+five Delivered = refl
+five Suppressed = refl
+five Flushed = refl
+
+within_bool : (n a : ℕ) → 1 ≤ n → n ≤ a → (nat_le 1 n && nat_le n a) ≡ true
+within_bool n a h l = and_from _ _ (le-leb 1 n h) (le-leb n a l)
+
+five_of : (T U : Table) (es : List Entry) (n : ℕ) → 1 ≤ n → n ≤ U.accepted
+    → Journals.counts Pending (Journals.fate_of T es U n) + Journals.counts Merged (Journals.fate_of T es U n) + Journals.counts Delivered (Journals.fate_of T es U n) + Journals.counts Suppressed (Journals.fate_of T es U n) + Journals.counts Flushed (Journals.fate_of T es U n) ≡ 1
+five_of T U es n h l = go (nat_le 1 n && nat_le n U.accepted) (within_bool n U.accepted h l)
+  where
+    now : Fate
+    now = Journals.or_pending (Journals.ended_as (Journals.ended_by T es) n)
+
+    go : (b : Bool) → b ≡ true
+        → Journals.counts Pending (if b then Some (Journals.or_pending (Journals.ended_as (Journals.ended_by T es) n)) else None) + Journals.counts Merged (if b then Some (Journals.or_pending (Journals.ended_as (Journals.ended_by T es) n)) else None) + Journals.counts Delivered (if b then Some (Journals.or_pending (Journals.ended_as (Journals.ended_by T es) n)) else None) + Journals.counts Suppressed (if b then Some (Journals.or_pending (Journals.ended_as (Journals.ended_by T es) n)) else None) + Journals.counts Flushed (if b then Some (Journals.or_pending (Journals.ended_as (Journals.ended_by T es) n)) else None) ≡ 1
+    go true e = five (Journals.or_pending (Journals.ended_as (Journals.ended_by T es) n))
+    go false e = absurd (true≢false (sym e))
+
+sum_to : (T U : Table) (es : List Entry) (a : ℕ) → a ≤ U.accepted
+    → Journals.how_many T es U Pending a + Journals.how_many T es U Merged a + Journals.how_many T es U Delivered a + Journals.how_many T es U Suppressed a + Journals.how_many T es U Flushed a ≡ a
+sum_to T U es zero h = refl
+sum_to T U es (suc a) h = omega (arith, five_of T U es (suc a) (omega arith) h, sum_to T U es a (omega arith))
+
+pub fates_sum : Laws.FatesSumToAccepted
+fates_sum T U es = sum_to T U es U.accepted (omega arith)
+
+-- one fate
+
+is_in_occurs : (n : ℕ) (xs : List ℕ) → IsIn n xs → 1 ≤ Journals.occurs n xs
+is_in_occurs n [] h = absurd h
+is_in_occurs n (x ∷ xs) (inl e) = go (x == n) (eq-eqb x n e)
+  where
+    go : (b : Bool) → b ≡ true → 1 ≤ (if b then 1 else 0) + Journals.occurs n xs
+    go true q = omega arith
+    go false q = absurd (true≢false (sym q))
+is_in_occurs n (x ∷ xs) (inr h) = omega (arith, is_in_occurs n xs h)
+
+occurs_is_in : (n : ℕ) (xs : List ℕ) → 1 ≤ Journals.occurs n xs → IsIn n xs
+occurs_is_in n [] h = absurd (omega arith)
+occurs_is_in n (x ∷ xs) h = go (x == n) refl h (occurs_is_in n xs)
+  where
+    go : (b : Bool) → (x == n) ≡ b → 1 ≤ (if b then 1 else 0) + Journals.occurs n xs → (1 ≤ Journals.occurs n xs → IsIn n xs) → (x ≡ n) ⊎ IsIn n xs
+    go true q l r = inl (eqb-true x n q)
+    go false q l r = inr (r (omega arith))
+
+-- the first ending of a number is one of its endings
+ended_first : (es : List Ending) (n : ℕ) (f : Fate) → Journals.ended_as es n ≡ Some f → (k : ℕ) × (slice_get es k ≡ Some (ending n f))
+ended_first [] n f e = absurd (none e)
+  where
+    none : None ≡ Some f → ⊥
+    none e = cc
+ended_first (x ∷ es) n f e = go (x.number == n) refl e (ended_first es n f)
+  where
+    same : Some x.fate ≡ Some f → x.fate ≡ f
+    same q = cc
+
+    go : (b : Bool) → (x.number == n) ≡ b → (if b then Some x.fate else Journals.ended_as es n) ≡ Some f → (Journals.ended_as es n ≡ Some f → (k : ℕ) × (slice_get es k ≡ Some (ending n f))) → (k : ℕ) × (slice_get (x ∷ es) k ≡ Some (ending n f))
+    go true q s r = (zero, (λ i. Some (record { number = eqb-true x.number n q i; fate = same s i })))
+    go false q s r = let z = r s in (suc z.0, z.1)
+
+-- where a number is ended once, each of its endings is the first
+ended_only : (es : List Ending) (n k : ℕ) (f : Fate) → gone n es ≤ 1 → slice_get es k ≡ Some (ending n f) → (Journals.ended_as es n ≡ Some f) × (1 ≤ gone n es)
+ended_only [] n k f l e = absurd (none e)
+  where
+    none : None ≡ Some (ending n f) → ⊥
+    none e = cc
+ended_only (x ∷ es) n zero f l e = (found (x.number == n) (eq-eqb x.number n (ap (λ (y : Ending). y.number) same)), counted (x.number == n) (eq-eqb x.number n (ap (λ (y : Ending). y.number) same)))
+  where
+    same : x ≡ ending n f
+    same = unsome e
+      where
+        unsome : Some x ≡ Some (ending n f) → x ≡ ending n f
+        unsome q = cc
+
+    found : (b : Bool) → b ≡ true → (if b then Some x.fate else Journals.ended_as es n) ≡ Some f
+    found true q = ap (λ (y : Ending). Some y.fate) same
+    found false q = absurd (true≢false (sym q))
+
+    counted : (b : Bool) → b ≡ true → 1 ≤ one b + gone n es
+    counted true q = omega arith
+    counted false q = absurd (true≢false (sym q))
+ended_only (x ∷ es) n (suc k) f l e = go (x.number == n) l (λ h. ended_only es n k f h e)
+  where
+    go : (b : Bool) → one b + gone n es ≤ 1 → (gone n es ≤ 1 → (Journals.ended_as es n ≡ Some f) × (1 ≤ gone n es)) → ((if b then Some x.fate else Journals.ended_as es n) ≡ Some f) × (1 ≤ one b + gone n es)
+    go true h r = absurd (let z = (r (omega arith)).1 in omega arith)
+    go false h r = ((r (omega arith)).0, omega (arith, (r (omega arith)).1))
+
+never_ended : (es : List Ending) (n : ℕ) → Journals.ended_as es n ≡ None → gone n es ≡ 0
+never_ended [] n e = refl
+never_ended (x ∷ es) n e = go (x.number == n) e (never_ended es n)
+  where
+    some : Some x.fate ≡ None → ⊥
+    some q = cc
+
+    go : (b : Bool) → (if b then Some x.fate else Journals.ended_as es n) ≡ None → (Journals.ended_as es n ≡ None → gone n es ≡ 0) → one b + gone n es ≡ 0
+    go true q r = absurd (some q)
+    go false q r = omega (arith, r q)
+
+pub fates_agree : Laws.FatesAgree
+fates_agree T U es rs start r n l m = (has (Journals.ended_as (Journals.ended_by T es) n) refl, λ f h. only f h)
+  where
+    s : Sound U (Journals.ended_by T es)
+    s = replay_sound T U [] es rs (start_sound T start) r
+
+    count : waits n U.waiting + total (holds n) U.threads + gone n (Journals.ended_by T es) ≡ 1
+    count = (replay_sound T U [] es rs (start_sound T start) r).at n ∙ born_within n U.accepted l m
+
+    lists : Journals.occurs n (Journals.waiting_numbers U.waiting ++ Journals.held_numbers U.threads) ≡ waits n U.waiting + total (holds n) U.threads
+    lists = occurs-append n (Journals.waiting_numbers U.waiting) (Journals.held_numbers U.threads) ∙ ap₂ (λ a b. a + b) (waits_is n U.waiting) (held_is n U.threads)
+
+    has : (o : Option Fate) → Journals.ended_as (Journals.ended_by T es) n ≡ o → Journals.HasFate (Journals.ended_by T es) U n (Journals.or_pending o)
+    has None e = Journals.HasFate.still (occurs_is_in n (Journals.waiting_numbers U.waiting ++ Journals.held_numbers U.threads) (omega (arith, lists, count, never_ended (Journals.ended_by T es) n e)))
+    has (Some f) e = let k = ended_first (Journals.ended_by T es) n f e in Journals.HasFate.ended_so k.0 k.1
+
+    by_first : (o : Option Fate) → Journals.ended_as (Journals.ended_by T es) n ≡ o → 1 ≤ Journals.occurs n (Journals.waiting_numbers U.waiting ++ Journals.held_numbers U.threads) → Pending ≡ Journals.or_pending o
+    by_first None e h = refl
+    by_first (Some f) e h = let k = ended_first (Journals.ended_by T es) n f e in let g = (ended_only (Journals.ended_by T es) n k.0 f (omega (arith, count)) k.1).1 in absurd (omega (arith, lists, count))
+
+    only : (f : Fate) → Journals.HasFate (Journals.ended_by T es) U n f → f ≡ Journals.or_pending (Journals.ended_as (Journals.ended_by T es) n)
+    only f (Journals.HasFate.ended_so k e) = ap Journals.or_pending (sym (ended_only (Journals.ended_by T es) n k f (omega (arith, count)) e).0)
+    only f (Journals.HasFate.still h) = by_first (Journals.ended_as (Journals.ended_by T es) n) refl (is_in_occurs n (Journals.waiting_numbers U.waiting ++ Journals.held_numbers U.threads) h)
+
