@@ -49,24 +49,24 @@ use Rattle.tr_model.specs.Tables
 use Rattle.tr_tracee.specs.Threads
 use Rattle.tr_wait.specs.Words
 
-replay_keeps : (Q : Table → Type 0) → ((T : Table) (e : Entry) → Steps.Admits T e.actor e.event e.choice → Q T → Q (Steps.work_of T e).table) → (T U : Table) (es : List Entry) (rs : List Reply) → Journals.Replay T es rs U → Q T → Q U
+pub replay_keeps : (Q : Table → Type 0) → ((T : Table) (e : Entry) → Steps.Admits T e.actor e.event e.choice → Q T → Q (Steps.work_of T e).table) → (T U : Table) (es : List Entry) (rs : List Reply) → Journals.Replay T es rs U → Q T → Q U
 replay_keeps Q k T U [] [] r q = subst Q (sym r) q
 replay_keeps Q k T U [] (x ∷ rs) r q = absurd r
 replay_keeps Q k T U (e ∷ es) [] r q = absurd r
 replay_keeps Q k T U (e ∷ es) (x ∷ rs) r q = replay_keeps Q k (Steps.work_of T e).table U es rs (subst (λ M. Journals.Replay M es rs U) r.1.table r.2) (k T e r.1.choice q)
 
 -- ids are distinct, and reports of stops stand at stopped threads
-record Sane (T : Table) : Type 0 where
-  once : (k : ℕ) → total (has_id k) T.threads ≤ 1
-  spoken : Each Speaks T.threads
+pub record Sane (T : Table) : Type 0 where
+  pub once : (k : ℕ) → total (has_id k) T.threads ≤ 1
+  pub spoken : Each Speaks T.threads
 
-entry_sane : (T : Table) (e : Entry) → Steps.Admits T e.actor e.event e.choice → Sane T → Sane (Steps.work_of T e).table
+pub entry_sane : (T : Table) (e : Entry) → Steps.Admits T e.actor e.event e.choice → Sane T → Sane (Steps.work_of T e).table
 entry_sane T e h s =
     let d = always-kept Distinct moves-distinct T e h (record { once = s.once }) in
     let p = always-kept Spoken moves-spoken T e h (record { each = s.spoken }) in
     record { once = d.once; spoken = p.each }
 
-ids_total : (k : ℕ) (ts : List Thread) → total (has_id k) ts ≡ Journals.occurs k (Journals.ids_of ts)
+pub ids_total : (k : ℕ) (ts : List Thread) → total (has_id k) ts ≡ Journals.occurs k (Journals.ids_of ts)
 ids_total k [] = refl
 ids_total k (t ∷ ts) = go (t.id == k) (ids_total k ts)
   where
@@ -77,7 +77,7 @@ ids_total k (t ∷ ts) = go (t.id == k) (ids_total k ts)
 fresh_speaks : (t : Thread) → Journals.IsFresh t → Speaks t
 fresh_speaks t f = silent t f.report
 
-start_sane : (T : Table) → Journals.IsStart T → Sane T
+pub start_sane : (T : Table) → Journals.IsStart T → Sane T
 start_sane T s = record { once = λ k. omega (arith, s.ids k, ids_total k T.threads); spoken = each_weaker Journals.IsFresh Speaks fresh_speaks T.threads s.threads }
 
 has_it : (t : Thread) (ts : List Thread) → Member t ts → 1 ≤ total (has_id t.id) ts

@@ -537,10 +537,10 @@ event_reported before taken T a e c p h = rw append-nil (any_reported before tak
 
 -- Whole journals
 
-record Standing (T : Table) (raised : List Raise) (taken : List ℕ) : Type 0 where
-  count : (r : ℕ) → total (reports r) T.threads + notes r T.groups + occurs r taken ≤ upto r T.raised
-  threads : Each (Owned raised) T.threads
-  groups : EachGroup (OwnedNote raised) T.groups
+pub record Standing (T : Table) (raised : List Raise) (taken : List ℕ) : Type 0 where
+  pub count : (r : ℕ) → total (reports r) T.threads + notes r T.groups + occurs r taken ≤ upto r T.raised
+  pub threads : Each (Owned raised) T.threads
+  pub groups : EachGroup (OwnedNote raised) T.groups
 
 entry_standing : (T : Table) (raised : List Raise) (taken : List ℕ) (e : Entry) → Standing T raised taken → Steps.Admits T e.actor e.event e.choice
     → Standing (Steps.work_of T e).table (raised ++ (Steps.work_of T e).raises) (taken ++ Journals.consumed e)
@@ -552,7 +552,7 @@ entry_standing T raised taken e s h =
 regroup2 : (U : Table) (a b c : List Raise) (x y z : List ℕ) → Standing U ((a ++ b) ++ c) ((x ++ y) ++ z) → Standing U (a ++ (b ++ c)) (x ++ (y ++ z))
 regroup2 U a b c x y z s = subst (λ hs. Standing U hs (x ++ (y ++ z))) (append_assoc a b c) (subst (λ cs. Standing U ((a ++ b) ++ c) cs) (append_assoc x y z) s)
 
-replay_standing : (T U : Table) (raised : List Raise) (taken : List ℕ) (es : List Entry) (rs : List Reply) → Standing T raised taken → Journals.Replay T es rs U → Standing U (raised ++ Journals.raised_by T es) (taken ++ Journals.consumed_by es)
+pub replay_standing : (T U : Table) (raised : List Raise) (taken : List ℕ) (es : List Entry) (rs : List Reply) → Standing T raised taken → Journals.Replay T es rs U → Standing U (raised ++ Journals.raised_by T es) (taken ++ Journals.consumed_by es)
 replay_standing T U raised taken [] [] s r = simp append-nil (rw r s)
 replay_standing T U raised taken [] (x ∷ rs) s r = absurd r
 replay_standing T U raised taken (e ∷ es) [] s r = absurd r
@@ -577,10 +577,10 @@ no_note_yet : (gs : List Group) → EachGroup Journals.IsFreshGroup gs → EachG
 no_note_yet [] h = tt
 no_note_yet (g ∷ gs) h = (h.0.note, no_note_yet gs h.1)
 
-start_standing : (T : Table) → Journals.IsStart T → Standing T [] []
+pub start_standing : (T : Table) → Journals.IsStart T → Standing T [] []
 start_standing T n = let t = no_reports T.threads (no_report_yet T.threads n.threads) in let g = no_notes T.groups (no_note_yet T.groups n.groups) in record { count = λ r. omega (arith, t.0 r, g.0 r); threads = t.1; groups = g.1 }
 
-upto_one : (r a : ℕ) → (upto r a ≤ 1) × (a < r → upto r a ≡ 0)
+pub upto_one : (r a : ℕ) → (upto r a ≤ 1) × (a < r → upto r a ≡ 0)
 upto_one r zero = (omega arith, λ h. refl)
 upto_one r (suc a) = go (cases_eq (suc a) r) (upto_one r a)
   where
