@@ -107,4 +107,3 @@ restart_stands S T M U first between qs rs e f x t u s r0 st ct r1 cu same =
     let at_M = subst Sane (sym st.table) (entry_sane T e st.choice at_T) in
     let at_U = replay_keeps Sane entry_sane M U between rs r1 at_M in
     restart_between T M U between rs e f x t u st (waits_for T e t at_T ct) r1 (waits_for U f u at_U cu) same
-

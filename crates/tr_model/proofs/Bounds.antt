@@ -345,7 +345,7 @@ dies t (life.Leaving e told) w =
     let v = Ends.dead_now t w in
     branch 0 2 0 w told _ _
     (after_still 0 2 0 w v _ (after_still 0 0 0 w u v (alters _ w) (ends_waiting Flushed (λ q. Tables.same_target (target.Thread t.id) q.target) u))
-      (chain 0 1 0 0 1 0 v (Ends.bury t e v) _ (buries t e v) (lasts t.group (Ends.bury t e v))))
+    (chain 0 1 0 0 1 0 v (Ends.bury t e v) _ (buries t e v) (lasts t.group (Ends.bury t e v))))
     (less 0 1 0 0 2 0 w _ (omega arith) (omega arith) (omega arith) (enters t.id _ w))
 dies t life.Free w = none 0 2 0 w
 dies t life.Stopped w = none 0 2 0 w
@@ -377,7 +377,7 @@ restarts t s None w = less 0 0 0 1 0 0 w _ (omega arith) (omega arith) (omega ar
 restarts t s (Some i) w =
     branch 1 0 0 w (s == 0) _ _ (less 0 0 0 1 0 0 w _ (omega arith) (omega arith) (omega arith) (changes Suppressed TraceeStops.restarted t w))
     (branch 1 0 0 w (s == i.sig) _ _ (less 0 0 0 1 0 0 w _ (omega arith) (omega arith) (omega arith) (after_still 0 0 0 w _ _ (changes Delivered TraceeStops.restarted t w) (acts t s _ _ _)))
-      (after_still 1 0 0 w _ _ (changes Suppressed TraceeStops.restarted t w) (injects t s _)))
+    (after_still 1 0 0 w _ _ (changes Suppressed TraceeStops.restarted t w) (injects t s _)))
 
 -- with what it holds nothing is accepted
 keeps_held : (t : Thread) (o : Option Instance) (w : Work) → Bound 0 0 0 w (Requests.restart_held t (Requests.held_signal o) o w)

@@ -206,4 +206,3 @@ replay_dying T U before (e ∷ es) (x ∷ rs) s r g i =
 
 pub only_dying : Laws.AfterAKillOnlyDying
 only_dying T U es rs r g i = replay_dying T U [] es rs (λ h j. absurd j) r g i
-

@@ -64,4 +64,3 @@ is_in-append g (x ∷ xs) ys (inr h) = go (is_in-append g xs ys h)
     go : IsIn g xs ⊎ IsIn g ys → IsIn g (x ∷ xs) ⊎ IsIn g ys
     go (inl a) = inl (inr a)
     go (inr b) = inr b
-

@@ -156,4 +156,3 @@ moves-distinct = record {
   accept_as = λ fate live w d. as_it_was w (Moves.accept_as fate w) refl d;
   end_waiting = λ fate live q w d. as_it_was w (Moves.end_waiting fate q w) refl d;
 }
-

@@ -713,4 +713,3 @@ execs_any T _ = tt
 
 pub always-kept : (P : Work → Type 0) → Kept any any_of P → (T : Table) (e : Entry) → Steps.Admits T e.actor e.event e.choice → P (Moves.begin T) → P (Steps.work_of T e)
 always-kept P k T e h p = entry-kept any any_of P k T e (restarts_any e.actor e.event) (execs_any T e.event) (admits_new T e.actor e.event e.choice h) p
-

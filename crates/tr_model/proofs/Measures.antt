@@ -96,4 +96,3 @@ dead_holds _ e = refl
 pub execing_holds : (l : Life) → Lives.is_execing l ≡ true → held l ≡ None
 execing_holds (life.InStop s) e = absurd (true≢false (sym e))
 execing_holds _ e = refl
-

@@ -374,4 +374,3 @@ one_fate T U es rs start r =
       accepted = λ n l m. omega (arith, occurs_is n U (Journals.ended_by T es), s.at n, born_within n U.accepted l m);
       others = λ n o. omega (arith, occurs_is n U (Journals.ended_by T es), s.at n, ⊎_elim (λ e. ap (λ m. born m U.accepted) e ∙ born_none U.accepted) (λ l. born_past n U.accepted l) o);
     }
-

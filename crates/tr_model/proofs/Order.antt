@@ -510,4 +510,3 @@ in_order S T M U V first between qs rs e f x y start r se r2 sf a b ta tb same_s
         let z = w.1.there in
         let lt = all_after_in a.queue a.signal a.number z.0 U.waiting h z.1 (z.3 ∙ sym same_q) (ap (λ (i : Instance). i.sig) z.2 ∙ sym (same_s ∙ w.3)) in
         omega (arith, lt, ap (λ (i : Instance). i.n) z.2, w.2)
-

@@ -633,4 +633,3 @@ pub consumed_was_raised : Laws.ConsumedWasRaised
 consumed_was_raised T U V es rs e x n r st k i =
     let s = replay_standing T U [] [] es rs (start_standing T n) r in
     event_raised (Journals.raised_by T es) (Journals.consumed_by es) U e.actor e.event e.choice s st.choice k i
-

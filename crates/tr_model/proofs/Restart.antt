@@ -474,4 +474,3 @@ restart_between T M U between rs e f x t u se we r wf same = go (replay_still t.
     go (inl s) =
         let st = same_thread s.thread u (sym s.found ∙ (ap (Tables.thread_of U) (sym same) ∙ wf.5)) in
         absurd (not_silent wf.1 u.report (found_in wf.1 u (filter (λ t. Words.asks_for wf.0 t.id) (Requests.tracees U f.actor)) wf.4).1 (ap (λ (y : Thread). y.report) (sym st) ∙ s.silent))
-

@@ -33,4 +33,3 @@ replay_one_end T U V (y ∷ es) (x ∷ rs) (z ∷ qs) h k =
   where
     first : (a b : Reply) (xs ys : List Reply) → a ≡ b → xs ≡ ys → a ∷ xs ≡ b ∷ ys
     first a b xs ys p q = subst (λ c. a ∷ xs ≡ c ∷ ys) p (ap (λ zs. a ∷ zs) q)
-

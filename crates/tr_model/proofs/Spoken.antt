@@ -148,6 +148,7 @@ placed-spoken t w d = go (Lives.is_execing t.life && not (t.id == t.group))
         at_place : (b : Bool) → Speaks (if b then Moves.renamed t.group t else x)
         at_place true = silent (Moves.renamed t.group t) refl
         at_place false = h
+
     go : (b : Bool) → Spoken (if b then Moves.placed t w else w)
     go true = record { each = each_map Speaks Speaks (Moves.in_place t) one_place (Moves.dropped t.id w.table.threads) (each_dropped Speaks t.id w.table.threads d.each) }
     go false = d
@@ -178,4 +179,3 @@ moves-spoken = record {
   accept_as = λ fate live w d. as_spoken w (Moves.accept_as fate w) refl d;
   end_waiting = λ fate live q w d. as_spoken w (Moves.end_waiting fate q w) refl d;
 }
-

@@ -66,6 +66,7 @@ module _ (T : Table) (es : List Entry) where
 
 pub reports_are_open : Laws.ReportsAreOpen
 reports_are_open T U es rs s r =
-    let now = replay_standing T U [] [] es rs (start_standing T s) r in
-    (threads_open T es U.threads now.threads (λ n l. omega (arith, l, now.count n, (upto_one n U.raised).0)),
-     groups_open T es U.groups now.groups (λ n l. omega (arith, l, now.count n, (upto_one n U.raised).0)))
+    let now = replay_standing T U [] [] es rs (start_standing T s) r in (
+      threads_open T es U.threads now.threads (λ n l. omega (arith, l, now.count n, (upto_one n U.raised).0)),
+      groups_open T es U.groups now.groups (λ n l. omega (arith, l, now.count n, (upto_one n U.raised).0)),
+    )

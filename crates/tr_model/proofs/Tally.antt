@@ -166,4 +166,3 @@ fates_agree T U es rs start r n l m = (has (Journals.ended_as (Journals.ended_by
     only : (f : Fate) → Journals.HasFate (Journals.ended_by T es) U n f → f ≡ Journals.or_pending (Journals.ended_as (Journals.ended_by T es) n)
     only f (Journals.HasFate.ended_so k e) = ap Journals.or_pending (sym (ended_only (Journals.ended_by T es) n k f (omega (arith, count)) e).0)
     only f (Journals.HasFate.still h) = by_first (Journals.ended_as (Journals.ended_by T es) n) refl (is_in_occurs n (Journals.waiting_numbers U.waiting ++ Journals.held_numbers U.threads) h)
-
