@@ -1,7 +1,14 @@
--- The threads of one group among all threads, by their place in it.
-use Rattle.std.specs.Prelude.{ℕ, zero, suc, List, [], ◌∷◌, Option, Some, None, if◌then◌else◌, ◌==◌}
+-- The threads of one group among all threads, by their place in it, and what happens to all of them.
+use Rattle.std.specs.Prelude.{ℕ, zero, suc, List, [], ◌∷◌, ◌++◌, Bool, Option, Some, None, if◌then◌else◌, ◌==◌}
+use Rattle.tr_pending.specs.declared.instance.Instance.{Instance}
+use Rattle.tr_tracee.specs.declared.life.End.{End}
 use Rattle.tr_tracee.specs.declared.thread.Thread.{Thread}
-use Rattle.tr_tracee.specs.Threads.{in_group}
+use Rattle.tr_tracee.specs.Ends.{broken}
+use Rattle.tr_tracee.specs.Lives.{held}
+use Rattle.tr_tracee.specs.Marks.{cont_noted, continued, marked, noted}
+use Rattle.tr_tracee.specs.Threads.{in_group, throughout}
+use Rattle.tr_group.specs.declared.members.Change.{Change}
+use Rattle.tr_group.specs.declared.members.Change.TheVariants as change
 
 abbrev pub count_in : ℕ → List Thread → ℕ
 count_in g [] = 0
@@ -24,3 +31,40 @@ put_place (suc i) x t ts later = t ∷ later i
 abbrev pub put_member : ℕ → ℕ → Thread → List Thread → List Thread
 put_member g i x [] = []
 put_member g i x (t ∷ ts) = if in_group g t then put_place i x t ts (λ j. put_member g j x ts) else t ∷ put_member g i x ts
+
+-- SIGCONT: the note mark, and where a group-stop is in effect the end of the thread's part in it
+abbrev pub continued_by : Bool → Thread → Thread
+continued_by in_effect t = if in_effect then continued (noted t) else noted t
+
+abbrev pub applied : Change → Thread → Thread
+applied change.Mark t = marked t
+applied (change.Continue in_effect) t = continued_by in_effect t
+applied change.NoteCont t = cont_noted t
+applied (change.Leave kill end) t = broken kill end t
+
+-- f at the first n threads of the group
+abbrev pub first_changed : ℕ → (Thread → Thread) → Thread → List Thread → (ℕ → List Thread) → List Thread
+first_changed zero f t ts later = t ∷ ts
+first_changed (suc n) f t ts later = f t ∷ later n
+
+abbrev pub upto : ℕ → ℕ → (Thread → Thread) → List Thread → List Thread
+upto n g f [] = []
+upto n g f (t ∷ ts) = if in_group g t then first_changed n f t ts (λ j. upto j g f ts) else t ∷ upto n g f ts
+
+-- the numbers that the threads of a group hold
+abbrev pub number_held : Option Instance → List ℕ
+number_held None = []
+number_held (Some i) = i.n ∷ []
+
+abbrev pub held_in : ℕ → List Thread → List ℕ
+held_in g [] = []
+held_in g (t ∷ ts) = (if in_group g t then number_held (held t.life) else []) ++ held_in g ts
+
+abbrev pub first_held : ℕ → Thread → (ℕ → List ℕ) → List ℕ
+first_held zero t later = []
+first_held (suc n) t later = number_held (held t.life) ++ later n
+
+-- the numbers that the first n of them hold
+abbrev pub held_upto : ℕ → ℕ → List Thread → List ℕ
+held_upto n g [] = []
+held_upto n g (t ∷ ts) = if in_group g t then first_held n t (λ j. held_upto j g ts) else held_upto n g ts

@@ -2,6 +2,8 @@
 //! ptrace(2) have it.
 #![tactic(auto)]
 
+mod members;
 mod stops;
 
+pub use members::{Change, Members, begin_death, continue_all, initiate, note_cont};
 pub use stops::{Action, GroupStop};

@@ -1,5 +1,5 @@
 -- What is read off a thread's life.
-use Rattle.std.specs.Prelude.{ℕ, ◌/◌, ◌%◌, ◌==◌, Bool, true, false, Option, Some, None, if◌then◌else◌}
+use Rattle.std.specs.Prelude.{ℕ, ◌/◌, ◌%◌, Bool, true, false, ◌&&◌, nat_le, Option, Some, None, if◌then◌else◌}
 use Rattle.tr_pending.specs.declared.instance.Instance.{Instance}
 use Rattle.tr_wait.specs.declared.status.Status.{Status}
 use Rattle.tr_wait.specs.declared.status.Status.TheVariants as status
@@ -73,6 +73,10 @@ abbrev pub cont_came : Life → Bool
 cont_came (life.InStop (stop.Signal i came)) = came
 cont_came _ = false
 
+abbrev pub is_event_stop : Stop → Bool
+is_event_stop (stop.Event x) = true
+is_event_stop _ = false
+
 -- PTRACE_GETEVENTMSG
 abbrev pub message : Life → Option ℕ
 message (life.InStop (stop.Clone n)) = Some n
@@ -85,9 +89,9 @@ abbrev pub status_of_end : End → Status
 status_of_end (Exited code) = status.Exited code
 status_of_end (Killed signal) = status.Killed signal
 
--- the end that an exit stop's word tells
+-- the end that an exit stop's word tells: a signal's number, or a code times 256
 abbrev pub end_of_word : ℕ → End
-end_of_word w = if w % 256 == 0 then Exited (w / 256) else Killed w
+end_of_word w = if nat_le 1 w && nat_le w 64 then Killed w else Exited (w / 256 % 256)
 
 -- the status that entering a stop reports
 abbrev pub status_of_stop : Stop → Status

@@ -9,7 +9,7 @@ use Rattle.tr_tracee.specs.declared.thread.Options.{Options}
 use Rattle.tr_tracee.specs.declared.thread.Report.{Report}
 use Rattle.tr_tracee.specs.declared.thread.Thread.{Thread}
 use Rattle.tr_tracee.specs.declared.thread.Trace.{Trace}
-use Rattle.tr_tracee.specs.Lives.{is_in_stop, serves_marks, status_of_stop, end_of_word}
+use Rattle.tr_tracee.specs.Lives.{is_event_stop, is_in_stop, serves_marks, status_of_stop, end_of_word}
 
 -- Tracing
 
@@ -53,13 +53,9 @@ may_enter life.Listening = true
 may_enter (life.Leaving e told) = not told
 may_enter _ = false
 
-abbrev pub is_event : Stop → Bool
-is_event (stop.Event x) = true
-is_event _ = false
-
 -- entering a ptrace-stop clears the trap mark, and PTRACE_EVENT_STOP the note mark too
 abbrev pub entered : Stop → Thread → Thread
-entered s t = record t { life = life.InStop s; trap_mark = false; note_mark = t.note_mark && not (is_event s) }
+entered s t = record t { life = life.InStop s; trap_mark = false; note_mark = t.note_mark && not (is_event_stop s) }
 
 -- with its report
 abbrev pub entered_as : ℕ → Stop → Thread → Thread

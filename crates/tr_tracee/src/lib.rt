@@ -2,7 +2,10 @@
 //! them. Nothing here takes memory.
 #![tactic(auto)]
 
+mod ends;
 mod life;
+mod marks;
+mod stops;
 mod thread;
 
 pub use life::{End, Life, Stop};

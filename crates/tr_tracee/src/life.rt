@@ -1,6 +1,9 @@
+ghost use Rattle.std.specs.Prelude.{◌≡◌};
+ghost use Rattle.tr_tracee.specs.Lives.{held, is_dead, is_event_stop, is_free, is_in_stop, is_live, serves_marks, status_of_end, status_of_stop, was_told};
+
 use tr_pending::Instance;
 use tr_sigset::Signal;
-use tr_wait::StopSig;
+use tr_wait::{Status, StopSig};
 
 /// How a thread ends.
 #[derive(Clone, Copy, Debug, PartialEq, Eq)]
@@ -46,4 +49,100 @@ pub enum Life {
     Dead(End),
     /// It waits in execve(2) for the other threads of its group to die.
     Execing,
+}
+
+impl End {
+    /// The status that waits tell of this end.
+    pub fn status(&self) -> Status
+        ensures { result ≡ status_of_end self.now }
+    {
+        match *self {
+            End::Exited(code) => Status::Exited(code),
+            End::Killed(signal) => Status::Killed(signal),
+        }
+    }
+}
+
+impl Stop {
+    /// The status that waits tell of this stop.
+    pub fn status(&self) -> Status
+        ensures { result ≡ status_of_stop self.now }
+    {
+        match *self {
+            Stop::Signal { held, .. } => Status::Stopped(held.sig),
+            Stop::Group(signal) => Status::Stopped(signal),
+            Stop::Clone(_) => Status::Clone,
+            Stop::Exec(_) => Status::Exec,
+            Stop::Exit(_) => Status::Exit,
+            Stop::Event(shown) => Status::EventStop(shown),
+        }
+    }
+
+    /// Whether it is a `PTRACE_EVENT_STOP`.
+    pub fn is_event(&self) -> bool
+        ensures { result ≡ is_event_stop self.now }
+    {
+        matches!(self, Stop::Event(_))
+    }
+}
+
+impl Life {
+    /// Whether it runs, or pauses.
+    pub fn is_free(&self) -> bool
+        ensures { result ≡ is_free self.now }
+    {
+        matches!(self, Life::Free)
+    }
+
+    /// Whether it has ended.
+    pub fn is_dead(&self) -> bool
+        ensures { result ≡ is_dead self.now }
+    {
+        matches!(self, Life::Dead(_))
+    }
+
+    /// Whether it is in a ptrace-stop.
+    pub fn is_in_stop(&self) -> bool
+        ensures { result ≡ is_in_stop self.now }
+    {
+        matches!(self, Life::InStop(_))
+    }
+
+    /// Whether it serves marks: it runs or listens.
+    pub fn serves_marks(&self) -> bool
+        ensures { result ≡ serves_marks self.now }
+    {
+        matches!(self, Life::Free | Life::Listening)
+    }
+
+    /// Whether it is live: it doesn't leave, isn't dead, and isn't in its exit stop.
+    pub fn is_live(&self) -> bool
+        ensures { result ≡ is_live self.now }
+    {
+        !matches!(
+            self,
+            Life::Leaving { .. } | Life::Dead(_) | Life::InStop(Stop::Exit(_))
+        )
+    }
+
+    /// Whether it was told to leave already, or is in its exit stop.
+    pub fn was_told(&self) -> bool
+        ensures { result ≡ was_told self.now }
+    {
+        match self {
+            Life::Leaving { told, .. } => *told,
+            Life::InStop(Stop::Exit(_)) => true,
+            _ => false,
+        }
+    }
+
+    /// The instance that its signal-delivery-stop holds.
+    pub fn held(&self) -> Option<Instance>
+        ensures { result ≡ held self.now }
+    {
+        match self {
+            Life::InStop(Stop::Signal { held, .. }) => Some(*held),
+            _ => None,
+        }
+    }
 }

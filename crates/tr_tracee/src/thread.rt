@@ -1,3 +1,6 @@
+ghost use Rattle.std.specs.Prelude.{◌≡◌};
+ghost use Rattle.tr_tracee.specs.Threads.{has_mark, is_leader, is_ready_to_take, is_traced, no_options, options_of, seized};
+
 use crate::life::Life;
 use tr_sigset::SigSet;
 use tr_wait::Status;
@@ -50,4 +53,64 @@ pub struct Thread {
     pub joined: bool,
     /// What its tracer, or the starter, may wait for.
     pub report: Option<Report>,
+}
+
+impl Options {
+    /// No option.
+    pub const NONE: Options = Options {
+        clone: false,
+        exec: false,
+        exit: false,
+        exitkill: false,
+    };
+}
+
+impl Thread {
+    /// Whether it is its group's leader.
+    pub fn is_leader(&self) -> bool
+        ensures { result ≡ is_leader self.now }
+    {
+        self.id == self.group
+    }
+
+    /// Whether somebody traces it.
+    pub fn is_traced(&self) -> bool
+        ensures { result ≡ is_traced self.now }
+    {
+        self.trace.is_some()
+    }
+
+    /// Whether it is traced by `PTRACE_SEIZE`.
+    pub fn is_seized(&self) -> bool
+        ensures { result ≡ seized self.now.trace }
+    {
+        match &self.trace {
+            Some(trace) => trace.seized,
+            None => false,
+        }
+    }
+
+    /// Its tracer's options, none where it has no tracer.
+    pub fn options(&self) -> Options
+        ensures { result ≡ options_of self.now.trace }
+    {
+        match &self.trace {
+            Some(trace) => trace.options,
+            None => Options::NONE,
+        }
+    }
+
+    /// Whether it has a mark to serve.
+    pub fn has_mark(&self) -> bool
+        ensures { result ≡ has_mark self.now }
+    {
+        self.stop_mark || self.trap_mark || self.note_mark
+    }
+
+    /// Whether it may take a signal: it runs or pauses, and has no mark.
+    pub fn is_ready_to_take(&self) -> bool
+        ensures { result ≡ is_ready_to_take self.now }
+    {
+        self.life.is_free() && !self.has_mark()
+    }
 }

@@ -1,0 +1,139 @@
+ghost use Rattle.std.specs.Prelude.{◌≡◌, ◌&&◌, nat_le, if◌then◌else◌, Some, None};
+ghost use Rattle.tr_tracee.specs.Lives.{end_of_word, held};
+ghost use Rattle.tr_tracee.specs.Stops.{ends_part, entered_as, interrupted, listening, listening_life, restarted, restarted_life, untraced, untraced_life, without_trace};
+
+use crate::life::{End, Life, Stop};
+use crate::thread::{Report, Thread};
+use tr_pending::Instance;
+use tr_sigset::Signal;
+
+// Ptrace-stops and restarts of one thread.
+
+impl Thread {
+    /// Enters a ptrace-stop, with the next report's number: ptrace(2). The trap mark goes, and at
+    /// `PTRACE_EVENT_STOP` the note mark too. Whether it may enter is the caller's to know.
+    pub fn enter(&mut self, stop: &Stop, number: u64)
+        ensures { self.new ≡ entered_as number stop.now self.old }
+    {
+        self.report = Some(Report {
+            number,
+            status: stop.status(),
+        });
+        self.note_mark = self.note_mark && !stop.is_event();
+        self.trap_mark = false;
+        self.life = Life::InStop(*stop);
+    }
+
+    /// Restarts it from its ptrace-stop, as `PTRACE_CONT` does: from its exit stop it leaves, from every other stop
+    /// it runs. Gives what the stop held. A report that no wait has consumed is withdrawn.
+    pub fn restart(&mut self) -> Option<Instance>
+        ensures thread { self.new ≡ restarted self.old }
+        ensures held { result ≡ held self.old.life }
+    {
+        let held = self.life.held();
+        self.joined = self.joined && !ends_part_of(&self.life);
+        self.life = restarted_from(&self.life);
+        self.report = None;
+        held
+    }
+
+    /// Lets it listen, from a `PTRACE_EVENT_STOP`: `PTRACE_LISTEN`. It still takes part in a group-stop.
+    pub fn listen(&mut self)
+        ensures { self.new ≡ listening self.old }
+    {
+        self.life = listening_from(&self.life);
+        self.report = None;
+    }
+
+    /// Sets its trap mark: `PTRACE_INTERRUPT`.
+    pub fn interrupt(&mut self)
+        ensures { self.new ≡ interrupted self.old }
+    {
+        self.trap_mark = true;
+    }
+
+    /// Ends its tracing, once it is restarted: `PTRACE_DETACH`. Where a group-stop is in effect a thread that would
+    /// run is stopped and takes part in it. In a ptrace-stop it stays as it is.
+    pub fn detach(&mut self, in_effect: bool)
+        ensures { self.new ≡ untraced in_effect self.old }
+    {
+        if self.life.is_in_stop() {
+            return;
+        }
+        self.lose_trace(in_effect);
+    }
+
+    fn lose_trace(&mut self, in_effect: bool)
+        ensures { self.new ≡ without_trace in_effect self.old }
+    {
+        let halts = in_effect && self.life.serves_marks();
+        self.life = untraced_from(in_effect, &self.life);
+        self.trace = None;
+        self.trap_mark = false;
+        self.note_mark = false;
+        self.stop_mark = self.stop_mark && !halts;
+        self.joined = self.joined || halts;
+        self.report = None;
+    }
+}
+
+/// The end that an exit stop's word tells.
+fn end_of_word(word: u32) -> End
+    ensures { result ≡ end_of_word word }
+{
+    match signal_of(word) {
+        Some(signal) => End::Killed(signal),
+        None => End::Exited((word / 256 % 256) as u8),
+    }
+}
+
+fn signal_of(word: u32) -> Option<Signal>
+    ensures { result ≡ (if nat_le 1 word && nat_le word 64 then Some word else None) }
+{
+    if word <= 64 {
+        Signal::new(word as u8)
+    } else {
+        None
+    }
+}
+
+fn ends_part_of(life: &Life) -> bool
+    ensures { result ≡ ends_part life.now }
+{
+    matches!(life, Life::InStop(Stop::Group(_) | Stop::Event(_)))
+}
+
+fn restarted_from(life: &Life) -> Life
+    ensures { result ≡ restarted_life life.now }
+{
+    match life {
+        Life::InStop(Stop::Exit(word)) => Life::Leaving {
+            end: end_of_word(*word),
+            told: true,
+        },
+        Life::InStop(_) => Life::Free,
+        _ => *life,
+    }
+}
+
+fn listening_from(life: &Life) -> Life
+    ensures { result ≡ listening_life life.now }
+{
+    match life {
+        Life::InStop(Stop::Event(_)) => Life::Listening,
+        _ => *life,
+    }
+}
+
+fn untraced_from(in_effect: bool, life: &Life) -> Life
+    ensures { result ≡ untraced_life in_effect life.now }
+{
+    match life {
+        Life::Free | Life::Listening => { if in_effect { Life::Stopped } else { Life::Free } }
+        Life::Leaving { end, .. } => Life::Leaving {
+            end: *end,
+            told: true,
+        },
+        _ => *life,
+    }
+}
