@@ -3,6 +3,8 @@
 
 mod items;
 mod starts;
+mod table;
 
 pub use items::Items;
 pub use starts::{GroupStart, Start};
+pub use table::Table;

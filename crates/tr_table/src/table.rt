@@ -1,0 +1,87 @@
+ghost use Rattle.std.specs.Prelude.{◌≡◌, ◌+◌, ◌<◌, ◌≤◌, OnOk, OnErr, option_copied};
+ghost use Rattle.tr_model.specs.Tables.{group_in, thread_in};
+
+use std::alloc::{AllocError, Global};
+use std::marker::Model;
+use tr_model::{Group, Waiting};
+use tr_tracee::Thread;
+
+/// The kernel's table: its threads and groups in table order, and all pending instances in order of acceptance.
+#[derive(Drop)]
+pub struct Table {
+    pub(crate) threads: Vec<Thread>,
+    pub(crate) groups: Vec<Group>,
+    pub(crate) waiting: Vec<Waiting>,
+    pub(crate) accepted: u64,
+    pub(crate) raised: u64,
+    pub(crate) limit: u32,
+    pub(crate) entries: u32,
+}
+
+impl Model for Table {
+    ghost use Rattle.std.specs.Prelude.{◌-◌, vec_len, vec_capacity};
+    ghost use Rattle.tr_table.specs.View.{View};
+
+    ghost Value = { View };
+
+    ghost view = { λ t. record {
+      table = record { threads = t.threads.items; groups = t.groups.items; waiting = t.waiting.items; accepted = t.accepted; raised = t.raised; limit = t.limit; entries = t.entries };
+      room = vec_capacity t.waiting - vec_len t.waiting;
+    } };
+}
+
+impl Table {
+    /// The record of a thread.
+    pub fn find(&self, id: u32) -> Option<&Thread>
+        ensures { option_copied result ≡ thread_in self.now.table.threads id }
+    {
+        find_thread(&self.threads, id)
+    }
+
+    /// The record of a group.
+    pub fn group(&self, tgid: u32) -> Option<&Group>
+        ensures { option_copied result ≡ group_in self.now.table.groups tgid }
+    {
+        find_group(&self.groups, tgid)
+    }
+
+    /// How many signals were accepted.
+    pub fn accepted(&self) -> u64
+        ensures { result ≡ self.now.table.accepted }
+    {
+        self.accepted
+    }
+
+    /// How many reports were raised.
+    pub fn raised(&self) -> u64
+        ensures { result ≡ self.now.table.raised }
+    {
+        self.raised
+    }
+
+    /// The queue limit.
+    pub fn limit(&self) -> u32
+        ensures { result ≡ self.now.table.limit }
+    {
+        self.limit
+    }
+
+    /// The entry limit.
+    pub fn entries(&self) -> u32
+        ensures { result ≡ self.now.table.entries }
+    {
+        self.entries
+    }
+}
+
+fn find_thread(threads: &[Thread], id: u32) -> Option<&Thread>
+    ensures { option_copied result ≡ thread_in threads.now id }
+{
+    threads.iter().find(|t| t.id == id)
+}
+
+fn find_group(groups: &[Group], tgid: u32) -> Option<&Group>
+    ensures { option_copied result ≡ group_in groups.now tgid }
+{
+    groups.iter().find(|g| g.tgid == tgid)
+}
