@@ -2,5 +2,7 @@
 #![tactic(auto)]
 
 mod instance;
+mod queue;
 
 pub use instance::{Info, Instance};
+pub use queue::{Put, Queue};
