@@ -1,5 +1,5 @@
 -- No two statuses have one word.
-use Rattle.std.proofs.Common.{◌≡◌, arith, rules}
+use Rattle.std.proofs.Common.{◌≡◌, arith}
 use Rattle.std.proofs.lemmas.Grind.{common_steps}
 use Rattle.tr_wait.specs.Words.{IsStatus, word}
 use Rattle.tr_wait.specs.declared.status.Status.{Status}

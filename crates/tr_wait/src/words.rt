@@ -3,6 +3,7 @@ ghost use Rattle.std.specs.Option.{SomeIff};
 ghost use Rattle.tr_sigset.specs.Signals.{IsSignal};
 ghost use Rattle.tr_wait.specs.Words.{IsMeaning, IsStatus, stop_number, word};
 ghost use Rattle.tr_wait.specs.declared.status.Status.{Status};
+ghost use Rattle.tr_wait.specs.declared.status.Status.TheVariants.{EventStop};
 ghost use Rattle.tr_wait.specs.declared.status.StopSig.{StopSig};
 
 use crate::status::{Status, StopSig};
@@ -12,21 +13,22 @@ use tr_sigset::Signal;
 #[derive(Clone, Copy, Debug, PartialEq, Eq)]
 pub struct Word(pub u32);
 
-/// The low byte of the word of every stop.
+/// The low byte of a stop's word. The signal stands above it, in eight bits, and the event above that.
 const STOPPED: u32 = 0x7f;
 
+/// The word of a group that continued.
 const CONTINUED: u32 = 0xffff;
 
-/// The event of `PTRACE_EVENT_STOP`. What stands above the low byte of a stop's word is the signal, with the event
-/// above it.
+/// The event `PTRACE_EVENT_STOP`.
 const EVENT_STOP: u32 = 128;
 
-/// What stands there at the stops of `PTRACE_EVENT_CLONE`, `PTRACE_EVENT_EXEC` and `PTRACE_EVENT_EXIT`: SIGTRAP, with
-/// the event.
+/// SIGTRAP and the event `PTRACE_EVENT_CLONE`.
 const CLONE: u32 = 3 << 8 | 5;
 
+/// SIGTRAP and the event `PTRACE_EVENT_EXEC`.
 const EXEC: u32 = 4 << 8 | 5;
 
+/// SIGTRAP and the event `PTRACE_EVENT_EXIT`.
 const EXIT: u32 = 6 << 8 | 5;
 
 /// The word of a status.
@@ -47,7 +49,7 @@ pub fn encode(status: Status) -> Word
 
 /// The word of an event stop.
 fn event_stop(shown: StopSig) -> u32
-    ensures { result ≡ 128 * 65536 + stop_number shown * 256 + 0x7f }
+    ensures { result ≡ word (EventStop shown) }
 {
     EVENT_STOP << 16 | u32::from(shown.number()) << 8 | STOPPED
 }
