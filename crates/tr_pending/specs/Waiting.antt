@@ -1,6 +1,6 @@
 -- A queue of pending signals: the list of its instances, in order of acceptance. signal(7), "Queueing and delivery
 -- semantics for multiple signals".
-use Rattle.std.specs.Prelude.{◌≡◌, ℕ, Bool, true, false, not, ◌&&◌, ◌==◌, nat_lt, nat_le, List, [], ◌∷◌, ◌++◌, Option, Some, None, filter, slice_get, if◌then◌else◌}
+use Rattle.std.specs.Prelude.{◌≡◌, ℕ, Bool, not, ◌&&◌, ◌==◌, nat_lt, nat_le, List, [], ◌∷◌, ◌++◌, Option, Some, None, filter, slice_get, if◌then◌else◌}
 use Rattle.std.specs.List.{list_any, position_or_len, remove}
 use Rattle.tr_sigset.specs.declared.sets.SigSet.{SigSet}
 use Rattle.tr_sigset.specs.Sets.{has}

@@ -2,5 +2,10 @@
 #![tactic(auto)]
 
 mod instance;
+mod queue;
 
 pub use instance::{Info, Instance};
+pub use queue::{Put, Queue};
+
+#[cfg(test)]
+mod tests;

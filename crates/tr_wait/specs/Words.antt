@@ -1,5 +1,5 @@
 -- The word of a wait status: the macros of waitpid(2), and the event stops of ptrace(2).
-use Rattle.std.specs.Prelude.{ℕ, ◌+◌, ◌*◌, ◌<◌, ◌==◌, Bool, true, ◌||◌, if◌then◌else◌}
+use Rattle.std.specs.Prelude.{◌≡◌, ◌≢◌, ℕ, ◌+◌, ◌*◌, ◌<◌, ◌==◌, Bool, true, ◌||◌, Option, Some, None, if◌then◌else◌}
 use Rattle.tr_sigset.specs.Signals.{IsSignal}
 use Rattle.tr_wait.specs.declared.status.Status.{Status}
 use Rattle.tr_wait.specs.declared.status.Status.TheVariants.{Exited, Killed, Stopped, Clone, Exec, Exit, EventStop, Continued}
@@ -36,6 +36,11 @@ word Exec = 0x4057f
 word Exit = 0x6057f
 word (EventStop shown) = 128 * 65536 + stop_number shown * 256 + 0x7f
 word Continued = 0xffff
+
+-- the status of a word, or none where no status has it
+abbrev pub IsMeaning : ℕ → Option Status → Type 0
+IsMeaning w (Some s) = IsStatus s × (word s ≡ w)
+IsMeaning w None = (s : Status) → IsStatus s → word s ≢ w
 
 -- whether a wait asks for this id
 abbrev pub asks_for : Which → ℕ → Bool

@@ -2,8 +2,15 @@
 //! takes memory.
 #![tactic(auto)]
 
+mod laws;
 mod status;
 mod waits;
+mod words;
 
+pub use laws::words_differ;
 pub use status::{Status, StopSig};
 pub use waits::{WaitFlags, Which};
+pub use words::{Word, decode, encode};
+
+#[cfg(test)]
+mod tests;
