@@ -2,6 +2,7 @@
 #![tactic(auto)]
 
 mod items;
+mod members;
 mod starts;
 mod table;
 
