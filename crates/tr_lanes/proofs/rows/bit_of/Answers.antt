@@ -1,0 +1,7 @@
+use Rattle.std.proofs.Common.{ap, ◌∙◌, not}
+use Rattle.tr_sigset.specs.Sets.{in_word}
+use Rattle.tr_lanes.proofs.Members.{row_test}
+use Rattle.tr_lanes.proofs.rows.bit_of.Goals as goal
+
+pub returns : goal.returns
+returns c row = row_test row c.number.result c.number.ensures.range.0 c.number.ensures.range.1 ∙ ap (λ s. not (in_word row s)) c.number.ensures.value
