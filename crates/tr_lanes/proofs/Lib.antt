@@ -1,6 +1,6 @@
 pub mod Members
 pub mod Blocks
-pub mod Masks
 pub mod Sums
+pub mod Masks
 pub mod ReadyWords
 pub mod Nibbles

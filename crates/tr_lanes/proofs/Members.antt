@@ -32,6 +32,22 @@ row_test row s p q =
     ∙ bit_times (bit_at row (s - 1)) (2 ^ (s - 1)) (bit_at-lt row (s - 1)) (pow_pos (s - 1))
     ∙ ap not (sym (in_word-suc row (s - 1) (omega arith)) ∙ ap (in_word row) (omega arith))
 
+bit_whole_zero : (b m : ℕ) → b ≡ 0 → 0 < m → (b * m == m) ≡ (b == 1)
+bit_whole_zero b m e q = rw (e, zero-mul m) (grind (arith, nat_tests))
+
+bit_whole_one : (b m : ℕ) → b ≡ 1 → (b * m == m) ≡ (b == 1)
+bit_whole_one b m e = rw e (grind (arith, nat_tests))
+
+bit_whole : (b m : ℕ) → b < 2 → 0 < m → (b * m == m) ≡ (b == 1)
+bit_whole b m p q = elim (cases_lt b 1) [ inl l ↦ bit_whole_zero b m (omega arith) q | inr g ↦ bit_whole_one b m (omega arith) ]
+
+pub row_has : (row s : ℕ) → 1 ≤ s → s ≤ 64 → (bit_and row (1 * 2 ^ (s - 1) % 2 ^ 64) == 1 * 2 ^ (s - 1) % 2 ^ 64) ≡ in_word row s
+row_has row s p q =
+    ap (λ w. bit_and row w == w) (single_word s p q)
+    ∙ ap (λ w. w == 2 ^ (s - 1)) (and_pow row (s - 1))
+    ∙ bit_whole (bit_at row (s - 1)) (2 ^ (s - 1)) (bit_at-lt row (s - 1)) (pow_pos (s - 1))
+    ∙ sym (in_word-suc row (s - 1) (omega arith)) ∙ ap (in_word row) (omega arith)
+
 -- a signal stands in what a thread can take where it waits, isn't blocked, and stands in the runnable row
 pub in_word-ready : (o b s r n : ℕ) → b < 2 ^ 64 → in_word (ready_word o b s r) n ≡ (((in_word o n || in_word s n) && not (in_word b n)) && in_word r n)
 in_word-ready o b s r n q =

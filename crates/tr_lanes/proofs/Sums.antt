@@ -1,46 +1,49 @@
 -- Counts and unions, block by block and row by row.
-use Rattle.std.proofs.Common.{◌≡◌, ℕ, ◌+◌, ◌-◌, ◌*◌, ◌<◌, ◌≤◌, Bool, not, ◌==◌, cond, length, List, [], ◌∷◌, ◌++◌, arith, refl, sym, ap, ◌∙◌, get_or, take, drop, bit_or, max, length-take}
+use Rattle.std.proofs.Common.{◌≡◌, ℕ, ◌+◌, ◌-◌, ◌*◌, ◌<◌, ◌≤◌, Bool, true, false, ◌==◌, cond, ◌^◌, length, map, List, [], ◌∷◌, ◌++◌, arith, refl, sym, ap, ◌∙◌, get_or, take, drop, bit_or, max, length-take}
 use Rattle.std.specs.Simd.{first_chunks}
 use Rattle.std.specs.List.{count_by}
 use Rattle.std.specs.Int.{bit_at}
 use Rattle.std.specs.Int.Bits.{or_zero_l, or_zero_r}
 use Rattle.std.proofs.lemmas.Bool.Decides.{nat_tests}
+use Rattle.std.proofs.lemmas.List.Recursion.{is_count_by}
 use Rattle.std.proofs.lemmas.List.Sums.{sum_by-append, count_by-le-length}
 use Rattle.std.proofs.lemmas.Nat.{or_comm}
 use Rattle.std.proofs.lemmas.Nat.Bits.{bit_at_or, same_from_bits}
-use lib.Lanes.{zip2, fold_l}
+use Rattle.std.proofs.lemmas.List.{length-map}
+use Rattle.std.proofs.lemmas.Simd.{adds_fit, sum-zip2, length-zip2}
+use lib.Lanes.{zip2, fold_l, sum_l, Each2}
+use mir.Val.{Fits}
+use mir.Syntax.{w64}
 use Rattle.tr_lanes.specs.Scans.{union_of}
 use Rattle.tr_lanes.proofs.Blocks.{take_block, take_rest, length_block}
 
 -- counts
 
-count_one : (p : ℕ → Bool) (x : ℕ) → count_by p (x ∷ []) ≡ cond (p x) 1 0
-count_one p x = omega arith
+add_test : (b : Bool) (n : ℕ) → cond b 1 0 + n ≡ cond b (1 + n) n
+add_test true n = refl
+add_test false n = omega arith
 
--- whether the row that was looked at counts
-pub counts : (n x total : ℕ) → (x ≡ 0 → ⊥) → n + cond (not (x == 0)) 1 0 ≡ total → n + 1 ≡ total
-counts n x total h e = grind (arith, nat_tests)
+sum_tests : (p : ℕ → Bool) (xs : List ℕ) → sum_l (map (λ x. cond (p x) 1 0) xs) ≡ count_by p xs
+sum_tests p = is_count_by (λ xs. sum_l (map (λ x. cond (p x) 1 0) xs)) p refl (λ x xs. add_test (p x) (sum_l (map (λ y. cond (p y) 1 0) xs)))
 
-pub counts_not : (n x total : ℕ) → x ≡ 0 → n + cond (not (x == 0)) 1 0 ≡ total → n ≡ total
-counts_not n x total h e = grind (arith, nat_tests)
+-- the lanes after one more block of n of k, up to m, where each row of it that counts adds 1
+module _ (p : ℕ → Bool) (n k : ℕ) (xs : List ℕ) (bs : List (List ℕ)) (d : List ℕ) (c m : ℕ) (is : bs ≡ first_chunks n k xs) (h : c < k) (next : m ≡ n * c + n) (room : m ≤ length xs) (lanes held : List ℕ) (long : length lanes ≡ n) (so_far : sum_l lanes ≡ count_by p (take (n * c) xs)) (here : held ≡ map (λ x. cond (p x) 1 0) (get_or bs c d)) where
+  as_long : length lanes ≡ length held
+  as_long = long ∙ sym (ap length here ∙ length-map (get_or bs c d) (λ x. cond (p x) 1 0) ∙ length_block n k xs bs d c is h (omega (arith, room, next)))
 
--- after one more block of n of k, up to m
-module _ (p : ℕ → Bool) (n k : ℕ) (xs : List ℕ) (bs : List (List ℕ)) (d : List ℕ) (c m : ℕ) (is : bs ≡ first_chunks n k xs) (h : c < k) (next : m ≡ n * c + n) where
-  pub count_block : (count held : ℕ) → count ≡ count_by p (take (n * c) xs) → held ≡ count_by p (get_or bs c d) → count + held ≡ count_by p (take m xs)
-  count_block count held e f =
-      ap (λ v. v + held) e ∙ ap (λ v. count_by p (take (n * c) xs) + v) f
+  pub count_lanes : sum_l lanes + sum_l held ≡ count_by p (take m xs)
+  count_lanes =
+      ap (λ v. v + sum_l held) so_far ∙ ap (λ v. count_by p (take (n * c) xs) + v) (ap sum_l here ∙ sum_tests p (get_or bs c d))
       ∙ sym (sum_by-append _ (take (n * c) xs) (get_or bs c d)) ∙ ap (count_by p) (sym (take_block n k xs bs d c is h m next))
 
-  pub count_fits : (count held : ℕ) → count ≡ count_by p (take (n * c) xs) → held ≡ count_by p (get_or bs c d) → count + held ≤ length xs
-  count_fits count held e f = omega (arith, count_block count held e f, count_by-le-length p (take m xs), length-take m xs)
+  pub lanes_fit : length xs < 2 ^ 64 → Each2 (λ a b. Fits w64 (a + b)) lanes held
+  lanes_fit few = adds_fit w64 lanes held (omega (arith, few, count_lanes, count_by-le-length p (take m xs), length-take m xs))
 
--- after one more row of the rest
-pub count_row : (p : ℕ → Bool) (xs rest : List ℕ) (m j n : ℕ) → m ≤ length xs → rest ≡ drop m xs → j < length rest → n ≡ count_by p (take (length xs - length rest + j) xs) → n + cond (p (get_or rest j 0)) 1 0 ≡ count_by p (take (length xs - length rest + (j + 1)) xs)
-count_row p xs rest m j n le is h e =
-    ap (λ v. v + cond (p (get_or rest j 0)) 1 0) e
-    ∙ ap (λ v. count_by p (take (length xs - length rest + j) xs) + v) (sym (count_one p (get_or rest j 0)))
-    ∙ sym (sum_by-append _ (take (length xs - length rest + j) xs) (get_or rest j 0 ∷ []))
-    ∙ ap (count_by p) (sym (take_rest xs rest m j le is h))
+  pub count_more : sum_l (zip2 (λ a b. a + b) lanes held) ≡ count_by p (take m xs)
+  count_more = sum-zip2 lanes held as_long ∙ count_lanes
+
+  pub length_more : length (zip2 (λ a b. a + b) lanes held) ≡ n
+  length_more = length-zip2 (λ a b. a + b) lanes held as_long ∙ long
 
 -- unions
 

@@ -1,4 +1,4 @@
-ghost use Rattle.std.specs.Prelude.{◌≡◌, ◌==◌, bit_and, count_by, not};
+ghost use Rattle.std.specs.Prelude.{◌≡◌, ◌==◌, bit_and, count_by, if◌then◌else◌, map};
 ghost use Rattle.tr_lanes.specs.Scans.{holds, union_of};
 
 use std::simd::prelude::*;
@@ -22,27 +22,27 @@ pub fn union_all(rows: &[u64]) -> u64
     all
 }
 
-/// How many of eight rows have a bit of `bit`.
-fn held_in(block: &[u64; 8], bit: u64) -> usize
-    ensures { result ≡ count_by (λ row. not (bit_and row bit == 0)) block.now }
+/// 1 for each of sixteen rows that has every bit of `bit`, and 0 for another.
+fn held_in(block: &[u64; 16], bit: u64) -> u64x16
+    ensures { result ≡ map (λ row. if bit_and row bit == bit then 1 else 0) block.now }
 {
-    (u64x8::from_array(*block) & u64x8::splat(bit))
-        .simd_ne(u64x8::splat(0))
-        .to_bitmask()
-        .count_ones() as usize
+    (u64x16::from_array(*block) & u64x16::splat(bit))
+        .simd_eq(u64x16::splat(bit))
+        .select(u64x16::splat(1), u64x16::splat(0))
 }
 
-/// How many rows have a bit of `bit`.
+/// How many rows have every bit of `bit`.
 fn count_with(rows: &[u64], bit: u64) -> usize
-    ensures { result ≡ count_by (λ row. not (bit_and row bit == 0)) rows.now }
+    ensures { result ≡ count_by (λ row. bit_and row bit == bit) rows.now }
 {
-    let (blocks, rest) = rows.as_chunks::<8>();
-    let mut count = 0;
+    let (blocks, rest) = rows.as_chunks::<16>();
+    let mut lanes = u64x16::splat(0);
     for block in blocks {
-        count += held_in(block, bit);
+        lanes = lanes.strict_add(held_in(block, bit));
     }
+    let mut count = lanes.strict_reduce_sum() as usize;
     for row in rest {
-        if *row & bit != 0 {
+        if *row & bit == bit {
             count += 1;
         }
     }

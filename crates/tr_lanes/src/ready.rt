@@ -20,6 +20,9 @@ fn nonzero_in(words: u64x8) -> usize
     requires { length words ≡ 8 }
     ensures { result ≡ position_or_len is_ready words }
 {
+    if words.reduce_or() == 0 {
+        return 8;
+    }
     lowest(words.simd_ne(u64x8::splat(0)).to_bitmask())
 }
 

@@ -1,14 +1,15 @@
 ghost use Rattle.std.specs.Prelude.{◌≡◌, ◌==◌, ℕ, bit_and, if◌then◌else◌};
 ghost use Rattle.std.specs.Int.{trailing_zeros, w64};
 ghost use Rattle.std.specs.List.{position, position_or_len};
-ghost use Rattle.tr_lanes.specs.Scans.{lacks};
+ghost use Rattle.tr_lanes.specs.Scans.{holds, lacks};
 
 use std::simd::prelude::*;
 use tr_sigset::Signal;
 
 /// The word of one signal.
 pub(crate) fn bit_of(signal: Signal) -> u64
-    ensures { (row : ℕ) → (bit_and row result == 0) ≡ lacks signal row }
+    ensures lacking { (row : ℕ) → (bit_and row result == 0) ≡ lacks signal row }
+    ensures holding { (row : ℕ) → (bit_and row result == result) ≡ holds signal row }
 {
     1 << (signal.number() - 1)
 }
@@ -28,10 +29,12 @@ pub(crate) fn lowest(hits: u64) -> usize
 fn clear_in(block: &[u64; 8], bit: u64) -> usize
     ensures { result ≡ position_or_len (λ row. bit_and row bit == 0) block.now }
 {
-    let hits = (u64x8::from_array(*block) & u64x8::splat(bit))
-        .simd_eq(u64x8::splat(0))
-        .to_bitmask();
-    lowest(hits)
+    let rows = u64x8::from_array(*block);
+    if rows.reduce_and() & bit != 0 {
+        return 8;
+    }
+    let hits = (rows & u64x8::splat(bit)).simd_eq(u64x8::splat(0));
+    lowest(hits.to_bitmask())
 }
 
 /// The place of the first row that has no bit of `bit`.
