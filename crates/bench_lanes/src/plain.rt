@@ -31,12 +31,13 @@ pub fn first_ready(rows: &Rows, _signal: &Signal, _out: &mut [u64]) -> u64 {
 
 #[inline(never)]
 pub fn ready_rows(rows: &Rows, _signal: &Signal, out: &mut [u64]) -> u64 {
-    let count = rows.own.len();
-    if rows.blocked.len() != count || rows.runnable.len() != count || out.len() != count {
+    let (own, blocked, runnable, shared) = (rows.own, rows.blocked, rows.runnable, rows.shared);
+    let count = own.len();
+    if blocked.len() != count || runnable.len() != count || out.len() != count {
         return 0;
     }
     for place in 0..count {
-        out[place] = (rows.own[place] | rows.shared) & !rows.blocked[place] & rows.runnable[place];
+        out[place] = (own[place] | shared) & !blocked[place] & runnable[place];
     }
     count as u64
 }

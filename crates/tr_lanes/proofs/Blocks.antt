@@ -1,5 +1,5 @@
 -- The blocks of a list, and a scan of them.
-use Rattle.std.proofs.Common.{◌≡◌, ℕ, zero, suc, ◌+◌, ◌-◌, ◌*◌, ◌/◌, ◌<◌, ◌≤◌, Bool, true, false, nat_lt, ◌==◌, inl, inr, Option, Some, None, List, [], ◌∷◌, ◌++◌, length, get_or, take, drop, length-drop, get_or-drop, drop-drop, mul-zero, arith, refl, sym, ap, ◌∙◌}
+use Rattle.std.proofs.Common.{◌≡◌, ℕ, zero, suc, ◌+◌, ◌-◌, ◌*◌, ◌/◌, ◌<◌, ◌≤◌, Bool, true, false, nat_lt, ◌==◌, inl, inr, Some, None, List, [], ◌∷◌, ◌++◌, length, get_or, take, drop, length-drop, get_or-drop, drop-drop, mul-zero, arith, sym, ap, ◌∙◌}
 use Rattle.std.specs.Simd.{first_chunks}
 use Rattle.std.specs.List.{position, position_or_len}
 use Rattle.std.proofs.Math.Nat.{mul-suc}

@@ -1,5 +1,5 @@
 -- What eight lanes give for a block of eight rows.
-use Rattle.std.proofs.Common.{◌≡◌, ℕ, ◌*◌, ◌-◌, ◌%◌, ◌^◌, suc, zero, Bool, true, false, not, ◌==◌, cond, eqb, arith, length, map, List, [], ◌∷◌, refl, sym, ap, ◌∙◌, bit_and, bit_or, lit≤}
+use Rattle.std.proofs.Common.{◌≡◌, ℕ, ◌-◌, ◌%◌, ◌^◌, suc, zero, Bool, true, false, not, ◌==◌, cond, eqb, arith, length, map, List, [], ◌∷◌, refl, sym, ap, ◌∙◌, bit_and, bit_or, lit≤}
 use Rattle.std.specs.Prelude.{replicate}
 use Rattle.std.specs.List.{position_or_len}
 use Rattle.std.specs.Int.{trailing_zeros, bit_not, w64}

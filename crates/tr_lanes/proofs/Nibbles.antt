@@ -7,7 +7,6 @@ use Rattle.std.proofs.lemmas.Bool.Decides.{nat_tests}
 use Rattle.std.proofs.lemmas.Nat.{and_mask, pow-add}
 use Rattle.std.proofs.lemmas.Nat.Bits.{bit_at-lt}
 use lib.Dec.{leb}
-use Rattle.tr_sigset.specs.Sets.{in_word}
 use Rattle.tr_sigset.proofs.Members.{in_word-suc}
 use Rattle.tr_lanes.specs.Digits.{member, digit_value, digit_text}
 

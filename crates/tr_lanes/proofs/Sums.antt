@@ -1,10 +1,9 @@
 -- Counts and unions, block by block and row by row.
-use Rattle.std.proofs.Common.{◌≡◌, ℕ, ◌+◌, ◌-◌, ◌*◌, ◌<◌, ◌≤◌, Bool, true, false, ◌==◌, cond, ◌^◌, length, map, List, [], ◌∷◌, ◌++◌, arith, refl, sym, ap, ◌∙◌, get_or, take, drop, bit_or, max, length-take}
+use Rattle.std.proofs.Common.{◌≡◌, ℕ, ◌+◌, ◌-◌, ◌*◌, ◌<◌, ◌≤◌, Bool, true, false, cond, ◌^◌, length, map, List, [], ◌∷◌, ◌++◌, arith, refl, sym, ap, ◌∙◌, get_or, take, drop, bit_or, max, length-take}
 use Rattle.std.specs.Simd.{first_chunks}
 use Rattle.std.specs.List.{count_by}
 use Rattle.std.specs.Int.{bit_at}
 use Rattle.std.specs.Int.Bits.{or_zero_l, or_zero_r}
-use Rattle.std.proofs.lemmas.Bool.Decides.{nat_tests}
 use Rattle.std.proofs.lemmas.List.Recursion.{is_count_by}
 use Rattle.std.proofs.lemmas.List.Sums.{sum_by-append, count_by-le-length}
 use Rattle.std.proofs.lemmas.Nat.{or_comm}

@@ -1,10 +1,9 @@
 ghost use Rattle.std.specs.Prelude.{◌≡◌, ◌==◌, bit_and, count_by, if◌then◌else◌, map};
 ghost use Rattle.tr_lanes.specs.Scans.{holds, union_of};
 
+use crate::rows::bit_of;
 use std::simd::prelude::*;
 use tr_sigset::Signal;
-
-use crate::rows::bit_of;
 
 /// The union of all rows, 0 where there is none.
 pub fn union_all(rows: &[u64]) -> u64

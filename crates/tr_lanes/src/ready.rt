@@ -2,9 +2,8 @@ ghost use Rattle.std.specs.Prelude.{◌≡◌, length};
 ghost use Rattle.std.specs.List.{position, position_or_len};
 ghost use Rattle.tr_lanes.specs.Scans.{is_ready, ready_words};
 
-use std::simd::prelude::*;
-
 use crate::rows::lowest;
+use std::simd::prelude::*;
 
 /// What each of eight threads can take.
 fn ready_in(own: &[u64; 8], blocked: &[u64; 8], shared: u64, runnable: &[u64; 8]) -> u64x8
@@ -38,7 +37,12 @@ pub fn first_ready(own: &[u64], blocked: &[u64], shared: u64, runnable: &[u64]) 
     let (blocked_blocks, blocked_rest) = blocked.as_chunks::<8>();
     let (runnable_blocks, runnable_rest) = runnable.as_chunks::<8>();
     for c in 0..own_blocks.len() {
-        let words = ready_in(&own_blocks[c], &blocked_blocks[c], shared, &runnable_blocks[c]);
+        let words = ready_in(
+            &own_blocks[c],
+            &blocked_blocks[c],
+            shared,
+            &runnable_blocks[c],
+        );
         let k = nonzero_in(words);
         if k < 8 {
             return Some(8 * c + k);
@@ -64,7 +68,12 @@ pub fn ready_rows(own: &[u64], blocked: &[u64], shared: u64, runnable: &[u64], o
     let (blocked_blocks, blocked_rest) = blocked.as_chunks::<8>();
     let (runnable_blocks, runnable_rest) = runnable.as_chunks::<8>();
     for c in 0..own_blocks.len() {
-        let words = ready_in(&own_blocks[c], &blocked_blocks[c], shared, &runnable_blocks[c]);
+        let words = ready_in(
+            &own_blocks[c],
+            &blocked_blocks[c],
+            shared,
+            &runnable_blocks[c],
+        );
         words.copy_to_slice(&mut out[8 * c..]);
     }
     let start = own.len() - own_rest.len();

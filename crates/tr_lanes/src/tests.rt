@@ -23,7 +23,9 @@ fn mixed(seed: u64) -> [u64; MOST] {
     let mut word = seed;
     let mut rows = [0; MOST];
     for place in 0..MOST {
-        word = word.wrapping_mul(6364136223846793005).wrapping_add(1442695040888963407);
+        word = word
+            .wrapping_mul(6364136223846793005)
+            .wrapping_add(1442695040888963407);
         rows[place] = word ^ word >> 29;
     }
     rows
@@ -32,7 +34,10 @@ fn mixed(seed: u64) -> [u64; MOST] {
 /// The signal that is tried at this many rows, and its word.
 fn tried_signal(rt: &impl Abort, length: usize) -> (Signal, u64) {
     let place = length % 64;
-    (Signal::new(place as u8 + 1).expect(rt, "a signal"), 1 << place)
+    (
+        Signal::new(place as u8 + 1).expect(rt, "a signal"),
+        1 << place,
+    )
 }
 
 fn plain_first_clear(rows: &[u64], bit: u64) -> Option<usize> {
@@ -80,12 +85,20 @@ fn check_first_clear(rt: &impl Abort, length: usize)
 {
     let (signal, bit) = tried_signal(rt, length);
     let mut rows = [bit; MOST];
-    assert_eq!(rt; first_clear(&rows[..length], signal), None, "no row of {length}");
+    assert_eq!(rt;
+        first_clear(&rows[..length], signal),
+        None,
+        "no row of {length}"
+    );
     for place in 0..length {
         if is_tried_at(place, length) {
             rows[place] = !bit;
             let found = first_clear(&rows[..length], signal);
-            assert_eq!(rt; found, plain_first_clear(&rows[..length], bit), "row {place} of {length}");
+            assert_eq!(rt;
+                found,
+                plain_first_clear(&rows[..length], bit),
+                "row {place} of {length}"
+            );
             assert_eq!(rt; found, Some(place), "row {place} of {length}");
             rows[place] = bit;
         }
@@ -142,9 +155,21 @@ fn check_first_ready(rt: &impl Abort, length: usize)
     let (_, bit) = tried_signal(rt, length);
     for place in 0..length {
         if is_tried_at(place, length) {
-            assert_eq!(rt; found_by_own(place, length, bit), Some(place), "row {place} of {length}");
-            assert_eq!(rt; found_by_mask(place, length, bit), Some(place), "row {place} of {length}");
-            assert_eq!(rt; found_by_run(place, length, bit), Some(place), "row {place} of {length}");
+            assert_eq!(rt;
+                found_by_own(place, length, bit),
+                Some(place),
+                "row {place} of {length}"
+            );
+            assert_eq!(rt;
+                found_by_mask(place, length, bit),
+                Some(place),
+                "row {place} of {length}"
+            );
+            assert_eq!(rt;
+                found_by_run(place, length, bit),
+                Some(place),
+                "row {place} of {length}"
+            );
         }
     }
 }
@@ -160,7 +185,11 @@ fn check_mixed_search(rt: &impl Abort, length: usize)
         words[place] = plain_ready(own[place], own[place], 6, u64::MAX);
     }
     assert_eq!(rt; found, plain_first(&words[..length]), "{length} rows");
-    assert_eq!(rt; first_ready(&own[..length], &own[..length], 0, &runnable[..length]), None, "no row of {length}");
+    assert_eq!(rt;
+        first_ready(&own[..length], &own[..length], 0, &runnable[..length]),
+        None,
+        "no row of {length}"
+    );
 }
 
 #[test]
@@ -184,7 +213,13 @@ fn check_ready_rows(rt: &impl Abort, length: usize)
         want[place] = plain_ready(own[place], blocked[place], 6, runnable[place]);
     }
     let mut out = mixed(4);
-    ready_rows(&own[..length], &blocked[..length], 6, &runnable[..length], &mut out[..length]);
+    ready_rows(
+        &own[..length],
+        &blocked[..length],
+        6,
+        &runnable[..length],
+        &mut out[..length],
+    );
     assert_eq!(rt; &out[..length], &want[..length], "{length} rows");
     assert_eq!(rt; &out[length..], &mixed(4)[length..], "after {length} rows");
 }
@@ -214,7 +249,11 @@ fn check_union_all(rt: &impl Abort, length: usize)
     for place in 0..length {
         rows[place] = 1 << (place % 64);
     }
-    assert_eq!(rt; union_all(&rows[..length]), plain_union(&rows[..length]), "{length} rows");
+    assert_eq!(rt;
+        union_all(&rows[..length]),
+        plain_union(&rows[..length]),
+        "{length} rows"
+    );
 }
 
 #[test]
@@ -231,18 +270,34 @@ fn check_count_holding(rt: &impl Abort, length: usize)
 {
     let (signal, bit) = tried_signal(rt, length);
     let mut rows = [!bit; MOST];
-    assert_eq!(rt; count_holding(&rows[..length], signal), 0, "no row of {length}");
+    assert_eq!(rt;
+        count_holding(&rows[..length], signal),
+        0,
+        "no row of {length}"
+    );
     for place in 0..length {
         if is_tried_at(place, length) {
             rows[place] = bit;
-            assert_eq!(rt; count_holding(&rows[..length], signal), 1, "row {place} of {length}");
+            assert_eq!(rt;
+                count_holding(&rows[..length], signal),
+                1,
+                "row {place} of {length}"
+            );
             rows[place] = !bit;
         }
     }
     let rows = mixed(5);
-    assert_eq!(rt; count_holding(&rows[..length], signal), plain_count(&rows[..length], bit), "{length} rows");
+    assert_eq!(rt;
+        count_holding(&rows[..length], signal),
+        plain_count(&rows[..length], bit),
+        "{length} rows"
+    );
     let rows = [u64::MAX; MOST];
-    assert_eq!(rt; count_holding(&rows[..length], signal), length, "all of {length} rows");
+    assert_eq!(rt;
+        count_holding(&rows[..length], signal),
+        length,
+        "all of {length} rows"
+    );
 }
 
 #[test]

@@ -15,9 +15,9 @@ overflow_add-lanes c =
 pub loop-block-preserved : goal.loop-block-preserved
 loop-block-preserved c = record {
   sixteen = length_more (λ row. bit_and row c.args.bit == c.args.bit) 16 (length c.args.rows.now / 16) c.args.rows.now c.as_chunks.result.0.now _ c.loop-block.block-index (16 * (c.loop-block.block-index + 1)) c.as_chunks.ensures.front (omega arith) (omega arith) (omega arith)
-    c.loop-block.lanes c.held_in-lanes.result c.loop-block.invariant.sixteen c.loop-block.invariant.so_far c.held_in-lanes.ensures;
+      c.loop-block.lanes c.held_in-lanes.result c.loop-block.invariant.sixteen c.loop-block.invariant.so_far c.held_in-lanes.ensures;
   so_far = count_more (λ row. bit_and row c.args.bit == c.args.bit) 16 (length c.args.rows.now / 16) c.args.rows.now c.as_chunks.result.0.now _ c.loop-block.block-index (16 * (c.loop-block.block-index + 1)) c.as_chunks.ensures.front (omega arith) (omega arith) (omega arith)
-    c.loop-block.lanes c.held_in-lanes.result c.loop-block.invariant.sixteen c.loop-block.invariant.so_far c.held_in-lanes.ensures;
+      c.loop-block.lanes c.held_in-lanes.result c.loop-block.invariant.sixteen c.loop-block.invariant.so_far c.held_in-lanes.ensures;
 }
 
 pub overflow_add-count : goal.overflow_add-count

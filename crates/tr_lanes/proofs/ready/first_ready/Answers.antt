@@ -1,4 +1,4 @@
-use Rattle.std.proofs.Common.{ℕ, List, ◌≡◌, ◌*◌, ◌/◌, length, arith, ap, ◌∙◌}
+use Rattle.std.proofs.Common.{ℕ, List, arith, ap, ◌∙◌}
 use Rattle.std.specs.List.{position_or_len}
 use Rattle.tr_lanes.specs.Scans.{ready_words, is_ready}
 use Rattle.tr_lanes.proofs.Blocks.{stopped, passed_all, position_found, position_none, one_more}

@@ -1,4 +1,4 @@
-use Rattle.std.proofs.Common.{ℕ, List, ◌≡◌, ◌*◌, ◌/◌, length, arith, ◌∙◌, sym}
+use Rattle.std.proofs.Common.{ℕ, List, ◌≡◌, length, arith, ◌∙◌, sym}
 use Rattle.tr_lanes.specs.Scans.{ready_words}
 use Rattle.tr_lanes.proofs.ReadyWords.{block-ready, rest-ready, length-ready, stored_block, stored_row, take_whole}
 use Rattle.tr_lanes.proofs.ready.ready_rows.Goals as goal

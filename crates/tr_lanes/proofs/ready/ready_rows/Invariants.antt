@@ -1,4 +1,4 @@
-use Rattle.std.proofs.Common.{◌≡◌, ℕ, ◌<◌, ◌+◌, ◌-◌, ◌*◌, length, take}
+use Rattle.std.proofs.Common.{◌≡◌, ◌+◌, ◌*◌, take}
 use Rattle.tr_lanes.specs.Scans.{ready_words}
 use Rattle.tr_lanes.proofs.ready.ready_rows.Given as goal
 
