@@ -1,8 +1,7 @@
 //! Each scan of tr_lanes, called as the plain loops are.
 
-use tr_sigset::Signal;
-
 use crate::rows::Rows;
+use tr_sigset::Signal;
 
 fn answer(found: Option<usize>) -> u64 {
     match found {

@@ -6,12 +6,10 @@ mod plain;
 mod rows;
 mod timing;
 
-use std::env;
-use std::io;
-use tr_sigset::Signal;
-
 use rows::{Data, Rows, WINDOWS};
+use std::{env, io};
 use timing::{Timing, timed};
+use tr_sigset::Signal;
 
 fn main(rt: HostRuntime) -> io::Result<()> {
     for word in env::args(&rt)?.skip(1) {
@@ -36,13 +34,23 @@ fn measure_rows(rt: &HostRuntime, signal: &Signal, count: usize) -> io::Result<(
     let data = Data::new(rt.alloc(), count, 1 << (signal.number() - 1))?;
     let mut out = Vec::new(rt.alloc());
     out.resize(count, 0)?;
-    match (data.window(0, count), data.window(1, count), data.window(2, count), data.window(3, count)) {
+    match (
+        data.window(0, count),
+        data.window(1, count),
+        data.window(2, count),
+        data.window(3, count),
+    ) {
         (Some(a), Some(b), Some(c), Some(d)) => measure_scans(rt, &[a, b, c, d], signal, &mut out),
         _ => Ok(()),
     }
 }
 
-fn measure_scans(rt: &HostRuntime, windows: &[Rows; WINDOWS], signal: &Signal, out: &mut [u64]) -> io::Result<()> {
+fn measure_scans(
+    rt: &HostRuntime,
+    windows: &[Rows; WINDOWS],
+    signal: &Signal,
+    out: &mut [u64],
+) -> io::Result<()> {
     measure_searches(rt, windows, signal, out)?;
     let plain = timed(rt, windows, signal, out, plain::ready_rows)?;
     let lanes = timed(rt, windows, signal, out, lanes::ready_rows)?;
@@ -50,7 +58,12 @@ fn measure_scans(rt: &HostRuntime, windows: &[Rows; WINDOWS], signal: &Signal, o
     measure_folds(rt, windows, signal, out)
 }
 
-fn measure_searches(rt: &HostRuntime, windows: &[Rows; WINDOWS], signal: &Signal, out: &mut [u64]) -> io::Result<()> {
+fn measure_searches(
+    rt: &HostRuntime,
+    windows: &[Rows; WINDOWS],
+    signal: &Signal,
+    out: &mut [u64],
+) -> io::Result<()> {
     let plain = timed(rt, windows, signal, out, plain::first_clear)?;
     let lanes = timed(rt, windows, signal, out, lanes::first_clear)?;
     print(rt, "first_clear", out.len(), plain, lanes)?;
@@ -59,7 +72,12 @@ fn measure_searches(rt: &HostRuntime, windows: &[Rows; WINDOWS], signal: &Signal
     print(rt, "first_ready", out.len(), plain, lanes)
 }
 
-fn measure_folds(rt: &HostRuntime, windows: &[Rows; WINDOWS], signal: &Signal, out: &mut [u64]) -> io::Result<()> {
+fn measure_folds(
+    rt: &HostRuntime,
+    windows: &[Rows; WINDOWS],
+    signal: &Signal,
+    out: &mut [u64],
+) -> io::Result<()> {
     let plain = timed(rt, windows, signal, out, plain::union_all)?;
     let lanes = timed(rt, windows, signal, out, lanes::union_all)?;
     print(rt, "union_all", out.len(), plain, lanes)?;
@@ -69,7 +87,20 @@ fn measure_folds(rt: &HostRuntime, windows: &[Rows; WINDOWS], signal: &Signal, o
 }
 
 /// Prints the times of a scan, and whether both ways gave the same sum of answers.
-fn print(rt: &HostRuntime, name: &str, count: usize, plain: Timing, lanes: Timing) -> io::Result<()> {
-    let same = if plain.sum == lanes.sum { "same" } else { "differ" };
-    println!(rt; "{name:14}{count:6}{:10.2}{:10.2}{:16.0}{:16.0}  {same} {:x}", plain.nanoseconds, lanes.nanoseconds, plain.rate, lanes.rate, lanes.sum)
+fn print(
+    rt: &HostRuntime,
+    name: &str,
+    count: usize,
+    plain: Timing,
+    lanes: Timing,
+) -> io::Result<()> {
+    let same = if plain.sum == lanes.sum {
+        "same"
+    } else {
+        "differ"
+    };
+    println!(rt;
+        "{name:14}{count:6}{:10.2}{:10.2}{:16.0}{:16.0}  {same} {:x}",
+        plain.nanoseconds, lanes.nanoseconds, plain.rate, lanes.rate, lanes.sum
+    )
 }

@@ -1,8 +1,7 @@
 //! Each scan as a plain loop. What can't be scanned answers 0.
 
-use tr_sigset::Signal;
-
 use crate::rows::Rows;
+use tr_sigset::Signal;
 
 #[inline(never)]
 pub fn first_clear(rows: &Rows, signal: &Signal, _out: &mut [u64]) -> u64 {

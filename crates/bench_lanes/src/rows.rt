@@ -33,7 +33,9 @@ impl Data {
         };
         let mut word: u64 = bit;
         for _ in 0..count.saturating_add(2 * WINDOWS) {
-            word = word.wrapping_mul(6364136223846793005).wrapping_add(1442695040888963407);
+            word = word
+                .wrapping_mul(6364136223846793005)
+                .wrapping_add(1442695040888963407);
             data.own.push(word | bit)?;
             data.blocked.push(word | bit)?;
             data.runnable.push(u64::MAX)?;

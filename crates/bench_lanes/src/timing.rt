@@ -1,9 +1,8 @@
+use crate::rows::{Rows, WINDOWS};
 use std::io;
 use std::rt::Clock;
 use std::time::Instant;
 use tr_sigset::Signal;
-
-use crate::rows::{Rows, WINDOWS};
 
 /// How many rows one round scans, about.
 const ROUND: usize = 1 << 20;
