@@ -1,0 +1,58 @@
+-- The digits of a word, four members at a time.
+use Rattle.std.proofs.Common.{◌≡◌, ℕ, zero, suc, ◌+◌, ◌*◌, ◌/◌, ◌%◌, ◌^◌, ◌<◌, cond, ◌==◌, List, [], ◌∷◌, arith, refl, sym, ap, ◌∙◌, get_or, bit_and}
+use Rattle.std.specs.Int.{bit_at}
+use Rattle.std.specs.Int.Bits.{mask_lt}
+use Rattle.std.proofs.Math.Nat.{div-div-eq-div-mul}
+use Rattle.std.proofs.lemmas.Bool.Decides.{nat_tests}
+use Rattle.std.proofs.lemmas.Nat.{and_mask, pow-add}
+use Rattle.std.proofs.lemmas.Nat.Bits.{bit_at-lt}
+use lib.Dec.{leb}
+use Rattle.tr_sigset.proofs.Members.{in_word-suc}
+use Rattle.tr_lanes.specs.Digits.{member, digit_value, digit_text}
+
+-- the text of a digit, as it is looked up
+text_at : (n : ℕ) → n < 16 → cond (leb 128 n) 0 (get_or (48 ∷ 49 ∷ 50 ∷ 51 ∷ 52 ∷ 53 ∷ 54 ∷ 55 ∷ 56 ∷ 57 ∷ 97 ∷ 98 ∷ 99 ∷ 100 ∷ 101 ∷ 102 ∷ []) (0 + n) 0) ≡ digit_text n
+text_at zero h = refl
+text_at (suc zero) h = refl
+text_at (suc (suc zero)) h = refl
+text_at (suc (suc (suc zero))) h = refl
+text_at (suc (suc (suc (suc zero)))) h = refl
+text_at (suc (suc (suc (suc (suc zero))))) h = refl
+text_at (suc (suc (suc (suc (suc (suc zero)))))) h = refl
+text_at (suc (suc (suc (suc (suc (suc (suc zero))))))) h = refl
+text_at (suc (suc (suc (suc (suc (suc (suc (suc zero)))))))) h = refl
+text_at (suc (suc (suc (suc (suc (suc (suc (suc (suc zero))))))))) h = refl
+text_at (suc (suc (suc (suc (suc (suc (suc (suc (suc (suc zero)))))))))) h = refl
+text_at (suc (suc (suc (suc (suc (suc (suc (suc (suc (suc (suc zero))))))))))) h = refl
+text_at (suc (suc (suc (suc (suc (suc (suc (suc (suc (suc (suc (suc zero)))))))))))) h = refl
+text_at (suc (suc (suc (suc (suc (suc (suc (suc (suc (suc (suc (suc (suc zero))))))))))))) h = refl
+text_at (suc (suc (suc (suc (suc (suc (suc (suc (suc (suc (suc (suc (suc (suc zero)))))))))))))) h = refl
+text_at (suc (suc (suc (suc (suc (suc (suc (suc (suc (suc (suc (suc (suc (suc (suc zero))))))))))))))) h = refl
+text_at (suc (suc (suc (suc (suc (suc (suc (suc (suc (suc (suc (suc (suc (suc (suc (suc n)))))))))))))))) h = absurd (omega arith)
+
+bit_member : (b : ℕ) → b < 2 → b ≡ cond (b == 1) 1 0
+bit_member b h = grind (arith, nat_tests)
+
+member_is : (word n : ℕ) → n < 64 → bit_at word n ≡ member word (n + 1)
+member_is word n l = bit_member (bit_at word n) (bit_at-lt word n) ∙ ap (λ b. cond b 1 0) (sym (in_word-suc word n l))
+
+four_bits : (x : ℕ) → x % 16 ≡ 8 * (x / 8 % 2) + 4 * (x / 4 % 2) + 2 * (x / 2 % 2) + x % 2
+four_bits x = omega arith
+
+bit_above : (word n j : ℕ) → word / 2 ^ n / 2 ^ j % 2 ≡ bit_at word (n + j)
+bit_above word n j = ap (λ v. v % 2) (div-div-eq-div-mul word (2 ^ n) (2 ^ j) ∙ ap (λ m. word / m) (sym (pow-add 2 n j)))
+
+-- the four bits from 4 k up
+nibble_is : (word k : ℕ) → k < 16 → bit_and (word / 2 ^ (4 * k)) 15 ≡ digit_value word k
+nibble_is word k l =
+    and_mask (word / 2 ^ (4 * k)) 4 ∙ four_bits (word / 2 ^ (4 * k))
+    ∙ ap (λ v. 8 * v + 4 * (word / 2 ^ (4 * k) / 4 % 2) + 2 * (word / 2 ^ (4 * k) / 2 % 2) + word / 2 ^ (4 * k) % 2) (bit_above word (4 * k) 3 ∙ member_is word (4 * k + 3) (omega arith) ∙ ap (member word) (omega arith))
+    ∙ ap (λ v. 8 * member word (4 * k + 4) + 4 * v + 2 * (word / 2 ^ (4 * k) / 2 % 2) + word / 2 ^ (4 * k) % 2) (bit_above word (4 * k) 2 ∙ member_is word (4 * k + 2) (omega arith) ∙ ap (member word) (omega arith))
+    ∙ ap (λ v. 8 * member word (4 * k + 4) + 4 * member word (4 * k + 3) + 2 * v + word / 2 ^ (4 * k) % 2) (bit_above word (4 * k) 1 ∙ member_is word (4 * k + 1) (omega arith) ∙ ap (member word) (omega arith))
+    ∙ ap (λ v. 8 * member word (4 * k + 4) + 4 * member word (4 * k + 3) + 2 * member word (4 * k + 2) + v) (member_is word (4 * k) (omega arith))
+
+pub digit_is : (word k : ℕ) → k < 16 → cond (leb 128 (bit_and (word / 2 ^ (4 * k)) 15)) 0 (get_or (48 ∷ 49 ∷ 50 ∷ 51 ∷ 52 ∷ 53 ∷ 54 ∷ 55 ∷ 56 ∷ 57 ∷ 97 ∷ 98 ∷ 99 ∷ 100 ∷ 101 ∷ 102 ∷ []) (0 + bit_and (word / 2 ^ (4 * k)) 15) 0) ≡ digit_text (digit_value word k)
+digit_is word k l = text_at (bit_and (word / 2 ^ (4 * k)) 15) (mask_lt (word / 2 ^ (4 * k)) 4) ∙ ap digit_text (nibble_is word k l)
+
+pub cons : {x y : ℕ} {xs ys : List ℕ} → x ≡ y → xs ≡ ys → x ∷ xs ≡ y ∷ ys
+cons e f = cc
