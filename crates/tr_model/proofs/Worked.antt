@@ -234,9 +234,6 @@ ok = Entered reply.Done
 abbrev nothing : Answer
 nothing = Read reply.Nothing
 
-abbrev refused : Refusal → Answer
-refused why = Refused why
-
 abbrev sent : ℕ → Fate → Answer
 sent n f = Entered (reply.Sent n f)
 
@@ -355,7 +352,7 @@ one_of_two_merged_signals_waits : shared (left one merging) ≡ 10 ∷ []
 unfolding in_word
 one_of_two_merged_signals_waits = refl
 
--- the other one that was sent waits no more
+-- nothing waits for the thread itself
 nothing_waits_for_the_thread_itself_after_sends_to_its_group : own (left one merging) 10 ≡ []
 unfolding in_word
 nothing_waits_for_the_thread_itself_after_sends_to_its_group = refl
@@ -413,7 +410,7 @@ unfolding in_word
 an_action_is_kept = refl
 
 -- with as many instances as the queue limit a real-time signal is refused
-a_real_time_signal_beyond_the_queue_limit_is_refused : answers one (queueing ++ sigqueue (pos 5) ∷ []) ≡ queued ++ refused Again ∷ []
+a_real_time_signal_beyond_the_queue_limit_is_refused : answers one (queueing ++ sigqueue (pos 5) ∷ []) ≡ queued ++ Refused Again ∷ []
 unfolding in_word
 a_real_time_signal_beyond_the_queue_limit_is_refused = refl
 
@@ -428,7 +425,7 @@ unfolding in_word
 a_refused_signal_is_not_accepted = refl
 
 -- instances of one number are taken in order of acceptance, with their values
-real_time_signals_are_taken_in_order_of_acceptance : answers one (queueing ++ sigqueue (pos 5) ∷ taking_four) ≡ queued ++ refused Again ∷ took_four
+real_time_signals_are_taken_in_order_of_acceptance : answers one (queueing ++ sigqueue (pos 5) ∷ taking_four) ≡ queued ++ Refused Again ∷ took_four
 unfolding in_word
 real_time_signals_are_taken_in_order_of_acceptance = refl
 
@@ -446,7 +443,7 @@ abbrev queueing_caught : List Call
 queueing_caught = mask (34 ∷ []) ∷ sigqueue (pos 1) ∷ sigqueue (pos 2) ∷ sigqueue (pos 3) ∷ sigqueue (pos 4) ∷ sigqueue (pos 5) ∷ []
 
 -- the same where the signal is caught from the start
-real_time_signals_are_taken_in_order_where_they_are_caught_from_the_start : answers (catching (34 ∷ [])) (queueing_caught ++ taking_four) ≡ ok ∷ sent 1 Pending ∷ sent 2 Pending ∷ sent 3 Pending ∷ sent 4 Pending ∷ refused Again ∷ took_four
+real_time_signals_are_taken_in_order_where_they_are_caught_from_the_start : answers (catching (34 ∷ [])) (queueing_caught ++ taking_four) ≡ ok ∷ sent 1 Pending ∷ sent 2 Pending ∷ sent 3 Pending ∷ sent 4 Pending ∷ Refused Again ∷ took_four
 unfolding in_word
 real_time_signals_are_taken_in_order_where_they_are_caught_from_the_start = refl
 
@@ -535,7 +532,7 @@ abbrev one_entry : Table
 one_entry = record (group_of (blocking (10 ∷ []) 10 ∷ [])) { entries = 1 }
 
 -- with as many entries as the entry limit no more are made, but a signal 0 is answered
-a_full_journal_takes_no_entry_but_answers_what_needs_none : answers one_entry (kill 10 ∷ kill 10 ∷ kill 0 ∷ []) ≡ sent 1 Pending ∷ refused JournalFull ∷ Read reply.Exists ∷ []
+a_full_journal_takes_no_entry_but_answers_what_needs_none : answers one_entry (kill 10 ∷ kill 10 ∷ kill 0 ∷ []) ≡ sent 1 Pending ∷ Refused JournalFull ∷ Read reply.Exists ∷ []
 unfolding in_word
 a_full_journal_takes_no_entry_but_answers_what_needs_none = refl
 
@@ -551,7 +548,7 @@ abbrev refusing : List Call
 refusing = action 9 Catch ∷ kill 65 ∷ attach ∷ attach ∷ by 902 (event.Wait Any) ∷ halt ∷ []
 
 -- SIGKILL has no action, 65 is no signal, a tracee has one tracer, a wait wants a tracee, a halt wants a mark
-bad_requests_are_refused : answers one (ignoring_a_waiting_one ++ refusing) ≡ ok ∷ sent 1 Pending ∷ ok ∷ refused Inval ∷ refused Inval ∷ sent 2 Pending ∷ refused Perm ∷ refused Child ∷ refused NotDue ∷ []
+bad_requests_are_refused : answers one (ignoring_a_waiting_one ++ refusing) ≡ ok ∷ sent 1 Pending ∷ ok ∷ Refused Inval ∷ Refused Inval ∷ sent 2 Pending ∷ Refused Perm ∷ Refused Child ∷ Refused NotDue ∷ []
 unfolding in_word
 bad_requests_are_refused = refl
 
@@ -587,7 +584,7 @@ abbrev pausing : List Call
 pausing = pause ∷ mask [] ∷ kill 28 ∷ kill 10 ∷ take ∷ []
 
 abbrev paused : List Answer
-paused = ok ∷ refused NotRunning ∷ sent 1 Flushed ∷ sent 2 Pending ∷ took 10 2 10 Caught ∷ []
+paused = ok ∷ Refused NotRunning ∷ sent 1 Flushed ∷ sent 2 Pending ∷ took 10 2 10 Caught ∷ []
 
 -- a paused thread is free, and pauses
 a_pause_lasts : pausing_in (thread_of (left (catching (10 ∷ [])) (pause ∷ [])) 10) ≡ true
@@ -632,7 +629,7 @@ abbrev leaving_none : List Call
 leaving_none = cloning ++ map block_12 (count_up 10 64) ++ kill 12 ∷ take_any ∷ []
 
 -- clones get the least free ids, 64 threads are the most in a group, and the one thread that does not block a signal takes it
-the_only_thread_that_does_not_block_a_signal_takes_it : answers one leaving_one ≡ cloned_all ++ refused Again ∷ replicate 63 ok ++ sent 1 Pending ∷ took 73 1 12 Dying ∷ []
+the_only_thread_that_does_not_block_a_signal_takes_it : answers one leaving_one ≡ cloned_all ++ Refused Again ∷ replicate 63 ok ++ sent 1 Pending ∷ took 73 1 12 Dying ∷ []
 unfolding in_word
 the_only_thread_that_does_not_block_a_signal_takes_it = refl
 
@@ -666,7 +663,7 @@ abbrev stopping : List Call
 stopping = kill 20 ∷ take ∷ take_by 11 ∷ halt ∷ halt_by 11 ∷ []
 
 abbrev stopped : List Answer
-stopped = sent 1 Pending ∷ took 10 1 20 Stopping ∷ refused Busy ∷ ok ∷ ok ∷ []
+stopped = sent 1 Pending ∷ took 10 1 20 Stopping ∷ Refused Busy ∷ ok ∷ ok ∷ []
 
 -- a stop signal begins a group-stop, in which each thread has to stop
 a_stop_signal_stops_every_thread : answers blocking_cont stopping ≡ stopped
@@ -755,7 +752,7 @@ unfolding in_word
 an_ignored_signal_is_reported_to_the_tracer = refl
 
 -- PTRACE_INTERRUPT and PTRACE_LISTEN are for seized tracees
-an_attached_tracee_is_not_interrupted_and_does_not_listen : answers one (attach ∷ take ∷ interrupt ∷ listen ∷ []) ≡ sent 1 Pending ∷ took_attached ∷ refused Io ∷ refused Io ∷ []
+an_attached_tracee_is_not_interrupted_and_does_not_listen : answers one (attach ∷ take ∷ interrupt ∷ listen ∷ []) ≡ sent 1 Pending ∷ took_attached ∷ Refused Io ∷ Refused Io ∷ []
 unfolding in_word
 an_attached_tracee_is_not_interrupted_and_does_not_listen = refl
 
@@ -763,7 +760,7 @@ abbrev injecting_attached : List Call
 injecting_attached = attaching ++ cont 0 ∷ kill 10 ∷ take ∷ wait ∷ cont 65 ∷ cont 12 ∷ []
 
 -- a restart with another number than the one held is a new signal; 65 is no signal
-a_tracer_of_an_attached_thread_injects_a_signal : answers (catching (12 ∷ [])) injecting_attached ≡ attached ++ ok ∷ sent 2 Pending ∷ took 10 2 10 Reported ∷ waited 10 0xa7f 2 ∷ refused Io ∷ ok ∷ []
+a_tracer_of_an_attached_thread_injects_a_signal : answers (catching (12 ∷ [])) injecting_attached ≡ attached ++ ok ∷ sent 2 Pending ∷ took 10 2 10 Reported ∷ waited 10 0xa7f 2 ∷ Refused Io ∷ ok ∷ []
 unfolding in_word
 a_tracer_of_an_attached_thread_injects_a_signal = refl
 
@@ -782,7 +779,7 @@ abbrev detaching : List Call
 detaching = halting ++ siginfo ∷ wait ∷ by 900 (event.Detach 10 0) ∷ []
 
 -- a delivered SIGSTOP stops an attached tracee twice: with the signal held, and in the group-stop
-an_attached_tracee_shows_a_group_stop_by_its_signal : answers one detaching ≡ halted ++ refused Inval ∷ waited 10 0x137f 2 ∷ ok ∷ []
+an_attached_tracee_shows_a_group_stop_by_its_signal : answers one detaching ≡ halted ++ Refused Inval ∷ waited 10 0x137f 2 ∷ ok ∷ []
 unfolding in_word
 an_attached_tracee_shows_a_group_stop_by_its_signal = refl
 
@@ -833,7 +830,7 @@ abbrev seizing : List Call
 seizing = seize no_options ∷ kill 19 ∷ take ∷ wait ∷ cont 19 ∷ halt ∷ wait ∷ listen ∷ cont 0 ∷ kill 18 ∷ trap ∷ wait ∷ []
 
 -- a seized tracee shows a group-stop as an event stop, listens there, and is told by a trap that the group was continued
-a_seized_tracee_listens_in_a_group_stop_and_is_told_of_its_end : answers one seizing ≡ ok ∷ sent 1 Pending ∷ took 10 1 19 Reported ∷ waited 10 0x137f 1 ∷ ok ∷ ok ∷ waited 10 0x80137f 2 ∷ ok ∷ refused Srch ∷ sent 2 Pending ∷ ok ∷ waited 10 0x80057f 3 ∷ []
+a_seized_tracee_listens_in_a_group_stop_and_is_told_of_its_end : answers one seizing ≡ ok ∷ sent 1 Pending ∷ took 10 1 19 Reported ∷ waited 10 0x137f 1 ∷ ok ∷ ok ∷ waited 10 0x80137f 2 ∷ ok ∷ Refused Srch ∷ sent 2 Pending ∷ ok ∷ waited 10 0x80057f 3 ∷ []
 unfolding in_word
 a_seized_tracee_listens_in_a_group_stop_and_is_told_of_its_end = refl
 
@@ -856,7 +853,7 @@ abbrev killing : List Call
 killing = seize no_options ∷ kill 10 ∷ take ∷ wait ∷ kill 9 ∷ die ∷ wait ∷ cont 0 ∷ reap ∷ kill 0 ∷ []
 
 -- SIGKILL breaks a stop; the death is told to the tracer, then to the starter, and the group is gone
-a_killed_tracee_is_told_to_its_tracer_and_then_to_the_starter : answers one killing ≡ ok ∷ sent 1 Pending ∷ took 10 1 10 Reported ∷ waited 10 0xa7f 1 ∷ sent 2 Delivered ∷ ok ∷ waited 10 9 2 ∷ refused Srch ∷ waited 10 9 3 ∷ refused Srch ∷ []
+a_killed_tracee_is_told_to_its_tracer_and_then_to_the_starter : answers one killing ≡ ok ∷ sent 1 Pending ∷ took 10 1 10 Reported ∷ waited 10 0xa7f 1 ∷ sent 2 Delivered ∷ ok ∷ waited 10 9 2 ∷ Refused Srch ∷ waited 10 9 3 ∷ Refused Srch ∷ []
 unfolding in_word
 a_killed_tracee_is_told_to_its_tracer_and_then_to_the_starter = refl
 
@@ -882,7 +879,7 @@ abbrev injected : List Answer
 injected = ok ∷ sent 1 Pending ∷ took 10 1 10 Reported ∷ waited 10 0xa7f 1 ∷ []
 
 -- a restart with another number than the one held is a new signal; 65 is no signal
-a_tracer_of_a_seized_thread_injects_a_signal : answers (catching (12 ∷ [])) (injecting ++ cont 65 ∷ cont 12 ∷ []) ≡ injected ++ refused Io ∷ ok ∷ []
+a_tracer_of_a_seized_thread_injects_a_signal : answers (catching (12 ∷ [])) (injecting ++ cont 65 ∷ cont 12 ∷ []) ≡ injected ++ Refused Io ∷ ok ∷ []
 unfolding in_word
 a_tracer_of_a_seized_thread_injects_a_signal = refl
 
@@ -916,7 +913,7 @@ abbrev trapping_after_a_cont : List Call
 trapping_after_a_cont = take ∷ trap ∷ wait ∷ cont 0 ∷ take ∷ wait ∷ []
 
 -- the tracee serves its mark first, and then takes the SIGCONT
-a_mark_is_served_before_a_signal_is_taken : answers one (stopping_after_a_cont ++ trapping_after_a_cont) ≡ not_stopped ++ refused Busy ∷ ok ∷ waited 10 0x80057f 2 ∷ ok ∷ took 10 2 18 Reported ∷ waited 10 0x127f 3 ∷ []
+a_mark_is_served_before_a_signal_is_taken : answers one (stopping_after_a_cont ++ trapping_after_a_cont) ≡ not_stopped ++ Refused Busy ∷ ok ∷ waited 10 0x80057f 2 ∷ ok ∷ took 10 2 18 Reported ∷ waited 10 0x127f 3 ∷ []
 unfolding in_word
 a_mark_is_served_before_a_signal_is_taken = refl
 
@@ -924,7 +921,7 @@ abbrev interrupting : List Call
 interrupting = seize no_options ∷ interrupt ∷ trap ∷ wait ∷ cont 0 ∷ kill 19 ∷ take ∷ wait ∷ cont 19 ∷ halt ∷ wait ∷ listen ∷ interrupt ∷ trap ∷ wait ∷ trap ∷ []
 
 -- an interrupt traps a tracee that runs or listens, once
-an_interrupt_traps_a_running_and_a_listening_tracee : answers one interrupting ≡ ok ∷ ok ∷ ok ∷ waited 10 0x80057f 1 ∷ ok ∷ sent 1 Pending ∷ took 10 1 19 Reported ∷ waited 10 0x137f 2 ∷ ok ∷ ok ∷ waited 10 0x80137f 3 ∷ ok ∷ ok ∷ ok ∷ waited 10 0x80137f 4 ∷ refused NotDue ∷ []
+an_interrupt_traps_a_running_and_a_listening_tracee : answers one interrupting ≡ ok ∷ ok ∷ ok ∷ waited 10 0x80057f 1 ∷ ok ∷ sent 1 Pending ∷ took 10 1 19 Reported ∷ waited 10 0x137f 2 ∷ ok ∷ ok ∷ waited 10 0x80137f 3 ∷ ok ∷ ok ∷ ok ∷ waited 10 0x80137f 4 ∷ Refused NotDue ∷ []
 unfolding in_word
 an_interrupt_traps_a_running_and_a_listening_tracee = refl
 
@@ -975,7 +972,7 @@ abbrev exec_of_another : List Call
 exec_of_another = seize_of 11 with_exec ∷ mask_of 11 (12 ∷ []) ∷ tgkill 11 12 ∷ exec_by 11 ∷ finish_by 11 ∷ die ∷ finish_by 11 ∷ wait ∷ message ∷ by 900 (event.Wait (One 11)) ∷ cont 0 ∷ []
 
 -- a thread that is not the leader waits in its exec for the death of the others, and then has the leader's id
-an_exec_of_another_thread_takes_the_id_of_the_leader : answers two exec_of_another ≡ ok ∷ ok ∷ sent 1 Pending ∷ ok ∷ refused NotDue ∷ ok ∷ ok ∷ waited 10 0x4057f 1 ∷ told 11 ∷ refused Child ∷ ok ∷ []
+an_exec_of_another_thread_takes_the_id_of_the_leader : answers two exec_of_another ≡ ok ∷ ok ∷ sent 1 Pending ∷ ok ∷ Refused NotDue ∷ ok ∷ ok ∷ waited 10 0x4057f 1 ∷ told 11 ∷ Refused Child ∷ ok ∷ []
 unfolding in_word
 an_exec_of_another_thread_takes_the_id_of_the_leader = refl
 
@@ -1005,7 +1002,7 @@ unfolding in_word
 a_signal_is_pending_after_an_exec = refl
 
 -- SIGKILL ends a thread in its exec, and the others
-a_kill_ends_an_exec : answers two (seize_of 11 with_exec ∷ exec_by 11 ∷ kill 9 ∷ finish_by 11 ∷ die ∷ die_by 11 ∷ wait ∷ reap ∷ []) ≡ ok ∷ ok ∷ sent 1 Delivered ∷ refused NotDue ∷ ok ∷ ok ∷ waited 11 9 1 ∷ waited 10 9 2 ∷ []
+a_kill_ends_an_exec : answers two (seize_of 11 with_exec ∷ exec_by 11 ∷ kill 9 ∷ finish_by 11 ∷ die ∷ die_by 11 ∷ wait ∷ reap ∷ []) ≡ ok ∷ ok ∷ sent 1 Delivered ∷ Refused NotDue ∷ ok ∷ ok ∷ waited 11 9 1 ∷ waited 10 9 2 ∷ []
 unfolding in_word
 a_kill_ends_an_exec = refl
 
@@ -1013,7 +1010,7 @@ abbrev exec_of_the_leader : List Call
 exec_of_the_leader = seize_of 11 with_exit ∷ exec ∷ die_by 11 ∷ wait ∷ message_of 11 ∷ cont_of 11 0 ∷ finish_by 10 ∷ die_by 11 ∷ finish_by 10 ∷ wait ∷ []
 
 -- the leader waits in its exec for the others, which have their exit stops
-an_exec_of_the_leader_waits_for_the_exit_stops_of_the_others : answers two exec_of_the_leader ≡ ok ∷ ok ∷ ok ∷ waited 11 0x6057f 1 ∷ told 0 ∷ ok ∷ refused NotDue ∷ ok ∷ ok ∷ waited 11 0 2 ∷ []
+an_exec_of_the_leader_waits_for_the_exit_stops_of_the_others : answers two exec_of_the_leader ≡ ok ∷ ok ∷ ok ∷ waited 11 0x6057f 1 ∷ told 0 ∷ ok ∷ Refused NotDue ∷ ok ∷ ok ∷ waited 11 0 2 ∷ []
 unfolding in_word
 an_exec_of_the_leader_waits_for_the_exit_stops_of_the_others = refl
 
@@ -1067,7 +1064,7 @@ abbrev reaping : List Call
 reaping = terminating ++ kill 10 ∷ kill 9 ∷ reap ∷ kill 0 ∷ []
 
 -- signals to a dead group are flushed until the starter reaps it
-signals_to_a_dead_group_are_flushed_until_it_is_reaped : answers one reaping ≡ terminated ++ sent 2 Flushed ∷ sent 3 Flushed ∷ waited 10 0xf 1 ∷ refused Srch ∷ []
+signals_to_a_dead_group_are_flushed_until_it_is_reaped : answers one reaping ≡ terminated ++ sent 2 Flushed ∷ sent 3 Flushed ∷ waited 10 0xf 1 ∷ Refused Srch ∷ []
 unfolding in_word
 signals_to_a_dead_group_are_flushed_until_it_is_reaped = refl
 
@@ -1077,7 +1074,7 @@ unfolding in_word
 a_dead_group_takes_no_signal = refl
 
 -- SIGKILL ends an exit stop: the death tells the kill
-a_kill_in_an_exit_stop_is_how_the_thread_ends : answers one (seize with_exit ∷ by 10 (event.Exit 10 3) ∷ wait ∷ message ∷ kill 9 ∷ cont 0 ∷ die ∷ wait ∷ reap ∷ []) ≡ ok ∷ ok ∷ waited 10 0x6057f 1 ∷ told 768 ∷ sent 1 Delivered ∷ refused Srch ∷ ok ∷ waited 10 9 2 ∷ waited 10 9 3 ∷ []
+a_kill_in_an_exit_stop_is_how_the_thread_ends : answers one (seize with_exit ∷ by 10 (event.Exit 10 3) ∷ wait ∷ message ∷ kill 9 ∷ cont 0 ∷ die ∷ wait ∷ reap ∷ []) ≡ ok ∷ ok ∷ waited 10 0x6057f 1 ∷ told 768 ∷ sent 1 Delivered ∷ Refused Srch ∷ ok ∷ waited 10 9 2 ∷ waited 10 9 3 ∷ []
 unfolding in_word
 a_kill_in_an_exit_stop_is_how_the_thread_ends = refl
 

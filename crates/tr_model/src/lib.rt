@@ -4,11 +4,13 @@
 mod checked;
 mod events;
 mod fates;
+mod laws;
 mod replies;
 mod rows;
 
 pub use checked::Checked;
 pub use events::{Choice, Entry, Event};
 pub use fates::{Ending, Fate, Totals};
+pub use laws::steps_are_determined;
 pub use replies::{Did, Refusal, Reply};
 pub use rows::{Group, Name, Target, Waiting};
