@@ -1,6 +1,11 @@
-ghost use Rattle.tr_model.specs.Laws.{StepsAreDetermined};
+ghost use Rattle.tr_model.specs.Laws.{CausesAreCauses, StepsAreDetermined};
 
 /// Table and entry together determine reply and table.
 pub fn steps_are_determined()
     ensures { StepsAreDetermined }
+{}
+
+/// A step is never refused for want of memory, for a full journal, or as an exec in a group of several threads.
+pub fn causes_are_causes()
+    ensures { CausesAreCauses }
 {}
