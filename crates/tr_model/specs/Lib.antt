@@ -15,3 +15,4 @@ pub mod Preferred
 pub mod Runs
 pub mod Journals
 pub mod Laws
+pub mod Choices

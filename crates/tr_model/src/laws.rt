@@ -1,3 +1,4 @@
+ghost use Rattle.tr_model.specs.Choices.{NothingIsExact};
 ghost use Rattle.tr_model.specs.Laws.{CausesAreCauses, StepsAreDetermined};
 
 /// Table and entry together determine reply and table.
@@ -8,4 +9,9 @@ pub fn steps_are_determined()
 /// A step is never refused for want of memory, for a full journal, or as an exec in a group of several threads.
 pub fn causes_are_causes()
     ensures { CausesAreCauses }
+{}
+
+/// Where the answer is Nothing, the model admits no choice: nobody can take, and nothing is ready.
+pub fn nothing_is_exact()
+    ensures { NothingIsExact }
 {}

@@ -1,0 +1,182 @@
+-- Nothing is answered exactly where the model admits no choice, and this product's choice is one that it admits.
+use Rattle.std.proofs.Common.{◌≡◌, ◌∙◌, ◌≤◌, ◌+◌, ◌==◌, ℕ, List, [], ◌∷◌, ◌++◌, Bool, true, false, not, ◌&&◌, ◌||◌, Option, Some, None, if◌then◌else◌, cond, refl, sym, ap, subst, inl, inr, arith}
+use Rattle.std.specs.Prelude.{◌≢◌, filter, find, flat_map, is_some, IsTrue}
+use Rattle.std.specs.List.{list_any}
+use Rattle.std.proofs.lemmas.Bool.{and_from, and_parts, eq-eqb, eqb-true, not-true, not_from_false, or_cases, or_left, or_right, true≢false}
+use Rattle.tr_pending.specs.declared.instance.Instance.{Instance}
+use Rattle.tr_wait.specs.Words.{asks_for}
+use Rattle.tr_wait.specs.declared.waits.WaitFlags.{WaitFlags}
+use Rattle.tr_wait.specs.declared.waits.Which.{Which}
+use Rattle.tr_tracee.specs.declared.thread.Report.{Report}
+use Rattle.tr_tracee.specs.declared.thread.Thread.{Thread}
+use Rattle.tr_tracee.specs.Lives.{held, is_dead, message}
+use Rattle.tr_tracee.specs.Threads.{in_group, is_leader, is_traced}
+use Rattle.tr_model.specs.declared.events.Choice.{Choice}
+use Rattle.tr_model.specs.declared.events.Event.{Event}
+use Rattle.tr_model.specs.declared.events.Event.TheVariants as event
+use Rattle.tr_model.specs.declared.replies.Reply.{Reply}
+use Rattle.tr_model.specs.declared.replies.Reply.TheVariants as reply
+use Rattle.tr_model.specs.declared.rows.Group.{Group}
+use Rattle.tr_model.specs.Causes.{can_take_thread, exists_where, is_empty, message_of, message_reply, nothing_where, quiet_of, siginfo, siginfo_of}
+use Rattle.tr_model.specs.Choices.{LeadersMatch, NothingIsExact}
+use Rattle.tr_model.specs.Journals.{DistinctIds, Each}
+use Rattle.tr_model.specs.Steps.{Admits, is_of, takes}
+use Rattle.tr_model.specs.Tables.{Table, group_of, has_traced, members, thread_of}
+use Rattle.tr_model.specs.Takes.{can_take, choices, is_none_left, numbered}
+use Rattle.tr_model.specs.Waits.{asked_tracees, death_number, has_report, is_death, led_groups, note_number, note_wanted, ready, ready_death, ready_for_starter, ready_note, ready_of_group, ready_thread, report_number, shows_note, with_note, with_report}
+use Rattle.tr_model.proofs.Among.{Among, among_filter, among_find, among_flat, any_among, empty_right, filter_among, find_among, found_by_id, some_found}
+
+-- Replies without an entry
+
+where_nothing : (b : Bool) → nothing_where b ≡ Some reply.Nothing → b ≡ true
+where_nothing true e = refl
+where_nothing false e = cc
+
+exists_is_something : (s : ℕ) → exists_where s ≡ Some reply.Nothing → ⊥
+exists_is_something s = elim (s == 0) as (λ b. (if b then Some reply.Exists else None) ≡ Some reply.Nothing → ⊥) [ true ↦ λ e. cc | false ↦ λ e. cc ]
+
+message_is_something : (o : Option Thread) → message_of o ≡ Some reply.Nothing → ⊥
+message_is_something None e = cc
+message_is_something (Some t) e = go (message t.life) e
+  where
+    go : (m : Option ℕ) → message_reply m ≡ Some reply.Nothing → ⊥
+    go None e = cc
+    go (Some n) e = cc
+
+siginfo_is_something : (o : Option Thread) → siginfo_of o ≡ Some reply.Nothing → ⊥
+siginfo_is_something None e = cc
+siginfo_is_something (Some t) e = go (held t.life) e
+  where
+    go : (i : Option Instance) → siginfo i ≡ Some reply.Nothing → ⊥
+    go None e = cc
+    go (Some i) e = cc
+
+-- Takes
+
+-- who takes an instance can take one
+taker_can : (T : Table) (t : Thread) (n : ℕ) → is_some (numbered n (choices T t)) ≡ true → can_take T t ≡ true
+taker_can T t n = go (choices T t)
+  where
+    go : (is : List Instance) → is_some (numbered n is) ≡ true → not (is_none_left is) ≡ true
+    go [] e = absurd (true≢false (sym e))
+    go (i ∷ is) e = refl
+
+thread_can : (T : Table) (o : Option Thread) (n : ℕ) → takes T o n ≡ true → can_take_thread T o ≡ true
+thread_can T None n e = absurd (true≢false (sym e))
+thread_can T (Some t) n e = taker_can T t n e
+
+-- and is a member of its group that can
+member_can : (T : Table) (g id n : ℕ) → is_of g (thread_of T id) ≡ true → takes T (thread_of T id) n ≡ true → list_any (can_take T) (members T g) ≡ true
+member_can T g id n = go (thread_of T id) refl
+  where
+    go : (o : Option Thread) → thread_of T id ≡ o → is_of g o ≡ true → takes T o n ≡ true → list_any (can_take T) (members T g) ≡ true
+    go None f h k = absurd (true≢false (sym h))
+    go (Some t) f h k = any_among (can_take T) t (members T g) (among_filter (in_group g) t T.threads (find_among (λ x. x.id == id) t T.threads f).0 h) (taker_can T t n k)
+
+-- Reports
+
+abbrev Reporter : ℕ → Thread → Type 0
+Reporter r t = has_report r t.report ≡ true
+
+reporter_among : (ts : List Thread) (r : ℕ) (t : Thread) → with_report ts r ≡ Some t → Among t ts × Reporter r t
+reporter_among [] r t e = cc
+reporter_among (x ∷ ts) r t e = go (has_report r x.report) refl (reporter_among ts r t) e
+  where
+    go : (b : Bool) → has_report r x.report ≡ b → (with_report ts r ≡ Some t → Among t ts × Reporter r t) → (if b then Some x else with_report ts r) ≡ Some t → Among t (x ∷ ts) × Reporter r t
+    go true h rest f = let same : x ≡ t = cc in (inl (sym same), subst (Reporter r) same h)
+    go false h rest f = let k = rest f in (inr k.0, k.1)
+
+noter_among : (gs : List Group) (r : ℕ) (g : Group) → with_note gs r ≡ Some g → Among g gs × (has_report r g.note ≡ true)
+noter_among [] r g e = cc
+noter_among (x ∷ gs) r g e = go (has_report r x.note) refl (noter_among gs r g) e
+  where
+    go : (b : Bool) → has_report r x.note ≡ b → (with_note gs r ≡ Some g → Among g gs × (has_report r g.note ≡ true)) → (if b then Some x else with_note gs r) ≡ Some g → Among g (x ∷ gs) × (has_report r g.note ≡ true)
+    go true h rest f = let same : x ≡ g = cc in (inl (sym same), subst (λ z. has_report r z.note ≡ true) same h)
+    go false h rest f = let k = rest f in (inr k.0, k.1)
+
+number_there : (r : ℕ) (o : Option Report) → has_report r o ≡ true → is_empty (report_number o) ≡ false
+number_there r None e = absurd (true≢false (sym e))
+number_there r (Some x) e = refl
+
+-- a tracee that has a report is ready
+tracee_ready : (T : Table) (a : ℕ) (which : Which) (r : ℕ) → is_some (ready_thread T a which r) ≡ true → is_empty (ready T a which) ≡ false
+tracee_ready T a which r e =
+    let f = some_found (ready_thread T a which r) e in
+    let h = reporter_among (asked_tracees T a which) r f.0 f.1 in
+    among_flat (λ t. report_number t.report) f.0 (asked_tracees T a which) h.0 (number_there r f.0.report h.1)
+
+-- The starter's reports
+
+each_among : (Q : Thread → Type 0) (t : Thread) (ts : List Thread) → Each Q ts → Among t ts → Q t
+each_among Q t [] c m = absurd m
+each_among Q t (x ∷ ts) c (inl e) = subst Q (sym e) c.0
+each_among Q t (x ∷ ts) c (inr m) = each_among Q t ts c.1 m
+
+-- what makes a group one that is asked for
+led : (T : Table) (which : Which) (g : Group) → Among g T.groups → asks_for which g.tgid ≡ true → is_some (thread_of T g.tgid) ≡ true → Among g (led_groups T which)
+led T which g m asked there = among_filter (λ x. asks_for which x.tgid && is_some (thread_of T x.tgid)) g T.groups m (and_from _ _ asked there)
+
+death_there : (t : Thread) (r : ℕ) → is_dead t.life ≡ true → not (is_traced t) ≡ true → Reporter r t → is_empty (death_number (Some t)) ≡ false
+death_there t r dead free h = rw (dead, free) (number_there r t.report h)
+
+empty_before : (xs ys : List ℕ) → is_empty xs ≡ false → is_empty (xs ++ ys) ≡ false
+empty_before [] ys e = absurd (true≢false e)
+empty_before (x ∷ xs) ys e = refl
+
+-- a dead leader that has a report makes its group ready
+leader_ready : (T : Table) (which : Which) (flags : WaitFlags) (r : ℕ) → DistinctIds T → LeadersMatch T → is_some (ready_death T which r) ≡ true → is_empty (ready_for_starter T which flags) ≡ false
+leader_ready T which flags r ids leaders e =
+    let f = some_found (ready_death T which r) e in
+    let t : Thread = f.0 in
+    let h = reporter_among (filter (is_death which) T.threads) r t f.1 in
+    let k = filter_among (is_death which) t T.threads h.0 in
+    let p = and_parts (is_dead t.life) _ k.1 in
+    let q = and_parts (not (is_traced t)) _ p.1 in
+    let w = and_parts (is_leader t) _ q.1 in
+    let g = some_found (group_of T t.id) (sym (each_among (λ x. is_leader x ≡ is_some (group_of T x.id)) t T.threads leaders k.0) ∙ w.0) in
+    let x : Group = g.0 in
+    let d = find_among (λ y. y.tgid == t.id) x T.groups g.1 in
+    let same : x.tgid ≡ t.id = eqb-true x.tgid t.id d.1 in
+    let found : thread_of T x.tgid ≡ Some t = subst (λ n. thread_of T n ≡ Some t) (sym same) (found_by_id t T.threads ids k.0) in
+    let shown = subst (λ o. is_empty (death_number o) ≡ false) (sym found) (death_there t r p.0 q.0 h.1) in
+    among_flat (ready_of_group T flags) x (led_groups T which)
+      (led T which x d.0 (subst (λ n. asks_for which n ≡ true) (sym same) w.1) (ap is_some found))
+      (empty_before (death_number (thread_of T x.tgid)) _ shown)
+
+-- a note that is asked for makes its group ready
+note_ready : (T : Table) (which : Which) (flags : WaitFlags) (r : ℕ) → is_some (ready_note T which flags r) ≡ true → is_empty (ready_for_starter T which flags) ≡ false
+note_ready T which flags r e =
+    let f = some_found (ready_note T which flags r) e in
+    let g : Group = f.0 in
+    let h = noter_among (filter (shows_note T which flags) T.groups) r g f.1 in
+    let k = filter_among (shows_note T which flags) g T.groups h.0 in
+    let p = and_parts (asks_for which g.tgid) _ k.1 in
+    let q = and_parts (is_some (thread_of T g.tgid)) _ p.1 in
+    let w = and_parts (not (has_traced T g.tgid)) _ q.1 in
+    let shown : is_empty (if has_traced T g.tgid then [] else note_number flags g.note) ≡ false = rw (not-true _ w.0, w.1) (number_there r g.note h.1) in
+    among_flat (ready_of_group T flags) g (led_groups T which) (led T which g k.0 p.0 q.0) (empty_right (death_number (thread_of T g.tgid)) _ shown)
+
+starter_ready : (T : Table) (which : Which) (flags : WaitFlags) (r : ℕ) → DistinctIds T → LeadersMatch T → (is_some (ready_death T which r) || is_some (ready_note T which flags r)) ≡ true → is_empty (ready_for_starter T which flags) ≡ false
+starter_ready T which flags r ids leaders e =
+    elim (or_cases (is_some (ready_death T which r)) (is_some (ready_note T which flags r)) e) as (λ _. is_empty (ready_for_starter T which flags) ≡ false) [
+      | inl h ↦ leader_ready T which flags r ids leaders h
+      | inr h ↦ note_ready T which flags r h
+    ]
+
+-- Nothing
+
+never : (b : Bool) → nothing_where b ≡ Some reply.Nothing → b ≡ false → ⊥
+never b e f = true≢false (sym (where_nothing b e) ∙ f)
+
+pub nothing_is_exact : NothingIsExact
+nothing_is_exact T a (event.Kill g s) c ids leaders x e h = exists_is_something s e
+nothing_is_exact T a (event.Tgkill g id s) c ids leaders x e h = exists_is_something s e
+nothing_is_exact T a (event.Sigqueue g s v) c ids leaders x e h = exists_is_something s e
+nothing_is_exact T a (event.Take id) c ids leaders x e h = never _ e (ap not (thread_can T (thread_of T id) h.0 h.2))
+nothing_is_exact T a (event.TakeAny g) c ids leaders x e h = never _ e (ap not (member_can T g h.0 h.1 h.3 h.4))
+nothing_is_exact T a (event.EventMessage id) c ids leaders x e h = message_is_something (thread_of T id) e
+nothing_is_exact T a (event.SignalInfo id) c ids leaders x e h = siginfo_is_something (thread_of T id) e
+nothing_is_exact T a event.TracerExit c ids leaders x e h = x refl
+nothing_is_exact T a (event.Wait which) c ids leaders x e h = never _ e (tracee_ready T a which h.0 h.2)
+nothing_is_exact T a (event.StarterWait which flags) c ids leaders x e h = never _ e (starter_ready T which flags h.0 ids leaders h.2)
+nothing_is_exact T a _ c ids leaders x e h = cc
