@@ -1,8 +1,8 @@
 -- Nothing is answered exactly where the model admits no choice, and this product's choice is one that it admits.
 use Rattle.std.proofs.Common.{◌≡◌, ◌∙◌, ◌≤◌, ◌+◌, ◌==◌, ℕ, List, [], ◌∷◌, ◌++◌, Bool, true, false, not, ◌&&◌, ◌||◌, Option, Some, None, if◌then◌else◌, cond, refl, sym, ap, subst, inl, inr, arith}
-use Rattle.std.specs.Prelude.{◌≢◌, filter, find, flat_map, is_some, IsTrue}
+use Rattle.std.specs.Prelude.{◌≢◌, ◌⊎◌, filter, find, flat_map, is_some, IsTrue}
 use Rattle.std.specs.List.{list_any}
-use Rattle.std.proofs.lemmas.Bool.{and_from, and_parts, eq-eqb, eqb-true, not-true, not_from_false, or_cases, or_left, or_right, true≢false}
+use Rattle.std.proofs.lemmas.Bool.{and_from, and_parts, eq-eqb, eqb-true, not-false, not-true, not_from_false, or_cases, or_left, or_right, true≢false}
 use Rattle.tr_pending.specs.declared.instance.Instance.{Instance}
 use Rattle.tr_wait.specs.Words.{asks_for}
 use Rattle.tr_wait.specs.declared.waits.WaitFlags.{WaitFlags}
@@ -14,17 +14,22 @@ use Rattle.tr_tracee.specs.Threads.{in_group, is_leader, is_traced}
 use Rattle.tr_model.specs.declared.events.Choice.{Choice}
 use Rattle.tr_model.specs.declared.events.Event.{Event}
 use Rattle.tr_model.specs.declared.events.Event.TheVariants as event
+use Rattle.tr_model.specs.declared.replies.Refusal.{Refusal}
 use Rattle.tr_model.specs.declared.replies.Reply.{Reply}
 use Rattle.tr_model.specs.declared.replies.Reply.TheVariants as reply
 use Rattle.tr_model.specs.declared.rows.Group.{Group}
-use Rattle.tr_model.specs.Causes.{can_take_thread, exists_where, is_empty, message_of, message_reply, nothing_where, quiet_of, siginfo, siginfo_of}
-use Rattle.tr_model.specs.Choices.{LeadersMatch, NothingIsExact}
+use Rattle.tr_model.specs.Causes.{can_take_thread, exists_where, first, is_empty, message_of, message_reply, nothing_where, quiet_of, siginfo, siginfo_of, thread_then}
+use Rattle.tr_model.specs.Choices.{IsSorted, LeadersMatch, NothingIsExact, PreferredIsAdmitted}
 use Rattle.tr_model.specs.Journals.{DistinctIds, Each}
-use Rattle.tr_model.specs.Steps.{Admits, is_of, takes}
+use Rattle.tr_model.specs.Laws.{HasFreeId}
+use Rattle.tr_model.specs.Preferred.{best_for, clone_choice, new_id, preferred, reporting, take_any_choice, take_choice, taking, taking_by}
+use Rattle.tr_model.specs.Steps.{Admits, gives_id, gives_report, is_new, is_of, takes, takes_by, takes_instance}
 use Rattle.tr_model.specs.Tables.{Table, group_of, has_traced, members, thread_of}
 use Rattle.tr_model.specs.Takes.{can_take, choices, is_none_left, numbered}
 use Rattle.tr_model.specs.Waits.{asked_tracees, death_number, has_report, is_death, led_groups, note_number, note_wanted, ready, ready_death, ready_for_starter, ready_note, ready_of_group, ready_thread, report_number, shows_note, with_note, with_report}
-use Rattle.tr_model.proofs.Among.{Among, among_filter, among_find, among_flat, any_among, empty_right, filter_among, find_among, found_by_id, some_found}
+use Rattle.tr_model.proofs.Among.{Among, among_filter, among_find, among_flat, any_among, empty_right, filter_among, find_among, first_of_flat, found_by_id, some_found}
+use Rattle.tr_model.proofs.FreeIds.{new_id_is_new}
+use Rattle.tr_model.proofs.Takable.{taken_by_choice}
 
 -- Replies without an entry
 
@@ -141,7 +146,7 @@ leader_ready T which flags r ids leaders e =
     let shown = subst (λ o. is_empty (death_number o) ≡ false) (sym found) (death_there t r p.0 q.0 h.1) in
     among_flat (ready_of_group T flags) x (led_groups T which)
       (led T which x d.0 (subst (λ n. asks_for which n ≡ true) (sym same) w.1) (ap is_some found))
-      (empty_before (death_number (thread_of T x.tgid)) _ shown)
+      (empty_before (death_number (thread_of T x.tgid)) (if has_traced T x.tgid then [] else note_number flags x.note) shown)
 
 -- a note that is asked for makes its group ready
 note_ready : (T : Table) (which : Which) (flags : WaitFlags) (r : ℕ) → is_some (ready_note T which flags r) ≡ true → is_empty (ready_for_starter T which flags) ≡ false
@@ -180,3 +185,126 @@ nothing_is_exact T a event.TracerExit c ids leaders x e h = x refl
 nothing_is_exact T a (event.Wait which) c ids leaders x e h = never _ e (tracee_ready T a which h.0 h.2)
 nothing_is_exact T a (event.StarterWait which flags) c ids leaders x e h = never _ e (starter_ready T which flags h.0 ids leaders h.2)
 nothing_is_exact T a _ c ids leaders x e h = cc
+
+-- This product's choices
+
+something : (b : Bool) → nothing_where b ≡ None → b ≡ false
+something true e = cc
+something false e = refl
+
+take_admitted : (T : Table) (o : Option Thread) → IsSorted T.waiting → can_take_thread T o ≡ true → (n : ℕ) × (take_choice T o ≡ takes_instance n) × (takes T o n ≡ true)
+take_admitted T None s c = absurd (true≢false (sym c))
+take_admitted T (Some t) s c = let h = taken_by_choice T t s c in (h.instance.n, ap taking h.best, h.found)
+
+-- the first member that can take something takes
+record FirstTaker (T : Table) (ts : List Thread) : Type 0 where
+  thread : Thread
+  among : Among thread ts
+  can : can_take T thread ≡ true
+  chosen : take_any_choice T ts ≡ taking_by thread.id (best_for T thread)
+
+first_taker : (T : Table) (ts : List Thread) → list_any (can_take T) ts ≡ true → FirstTaker T ts
+first_taker T [] e = absurd (true≢false (sym e))
+first_taker T (t ∷ ts) e = go (can_take T t) refl (first_taker T ts) e
+  where
+    go : (b : Bool) → can_take T t ≡ b → (list_any (can_take T) ts ≡ true → FirstTaker T ts) → (b || list_any (can_take T) ts) ≡ true → FirstTaker T (t ∷ ts)
+    go true h rest f = record { thread = t; among = inl refl; can = h; chosen = rw h refl }
+    go false h rest f = let k = rest f in record { thread = k.thread; among = inr k.among; can = k.can; chosen = rw h k.chosen }
+
+take_any_admitted : (T : Table) (g : ℕ) → DistinctIds T → IsSorted T.waiting → list_any (can_take T) (members T g) ≡ true
+    → (id : ℕ) × (n : ℕ) × (take_any_choice T (members T g) ≡ takes_by id n) × (is_of g (thread_of T id) ≡ true) × (takes T (thread_of T id) n ≡ true)
+take_any_admitted T g ids s e =
+    let k = first_taker T (members T g) e in
+    let t : Thread = k.thread in
+    let m = filter_among (in_group g) t T.threads k.among in
+    let found : thread_of T t.id ≡ Some t = found_by_id t T.threads ids m.0 in
+    let h = taken_by_choice T t s k.can in
+    (t.id, h.instance.n, k.chosen ∙ ap (taking_by t.id) h.best, ap (is_of g) found ∙ m.1, ap (λ o. takes T o h.instance.n) found ∙ h.found)
+
+reported_by : (r : ℕ) (ns : List ℕ) (o : Option Report) → report_number o ≡ r ∷ ns → has_report r o ≡ true
+reported_by r ns None e = cc
+reported_by r ns (Some x) e = eq-eqb x.number r cc
+
+reporter_found : (ts : List Thread) (r : ℕ) (t : Thread) → Among t ts → Reporter r t → is_some (with_report ts r) ≡ true
+reporter_found [] r t m h = absurd m
+reporter_found (x ∷ ts) r t (inl e) h = rw (subst (Reporter r) e h) refl
+reporter_found (x ∷ ts) r t (inr m) h = elim (has_report r x.report) as (λ b. is_some (if b then Some x else with_report ts r) ≡ true) [ true ↦ refl | false ↦ reporter_found ts r t m h ]
+
+noter_found : (gs : List Group) (r : ℕ) (g : Group) → Among g gs → has_report r g.note ≡ true → is_some (with_note gs r) ≡ true
+noter_found [] r g m h = absurd m
+noter_found (x ∷ gs) r g (inl e) h = rw (subst (λ z. has_report r z.note ≡ true) e h) refl
+noter_found (x ∷ gs) r g (inr m) h = elim (has_report r x.note) as (λ b. is_some (if b then Some x else with_note gs r) ≡ true) [ true ↦ refl | false ↦ noter_found gs r g m h ]
+
+wait_admitted : (T : Table) (a : ℕ) (which : Which) → is_empty (ready T a which) ≡ false → (r : ℕ) × (reporting (ready T a which) ≡ gives_report r) × (is_some (ready_thread T a which r) ≡ true)
+wait_admitted T a which e =
+    let f = first_of_flat (λ t. report_number t.report) (asked_tracees T a which) e in
+    (f.first, ap reporting f.all, reporter_found (asked_tracees T a which) f.first f.from f.among (reported_by f.first f.more f.from.report f.is))
+
+-- a group's first report is its dead leader's, or its note
+record FirstOfGroup (T : Table) (flags : WaitFlags) (g : Group) (r : ℕ) : Type 0 where
+  either : ((t : Thread) × (thread_of T g.tgid ≡ Some t) × (is_dead t.life ≡ true) × (not (is_traced t) ≡ true) × Reporter r t)
+      ⊎ ((not (has_traced T g.tgid) ≡ true) × (note_wanted flags g.note ≡ true) × (has_report r g.note ≡ true))
+
+first_of_group : (T : Table) (flags : WaitFlags) (g : Group) (r : ℕ) (ns : List ℕ) → ready_of_group T flags g ≡ r ∷ ns → FirstOfGroup T flags g r
+first_of_group T flags g r ns e = go (thread_of T g.tgid) refl e
+  where
+    from_note : (b c : Bool) → has_traced T g.tgid ≡ b → note_wanted flags g.note ≡ c → (if b then [] else if c then report_number g.note else []) ≡ r ∷ ns → FirstOfGroup T flags g r
+    from_note true c p q f = cc
+    from_note false true p q f = record { either = inr (ap not p, q, reported_by r ns g.note f) }
+    from_note false false p q f = cc
+
+    note_left : (if has_traced T g.tgid then [] else note_number flags g.note) ≡ r ∷ ns → FirstOfGroup T flags g r
+    note_left f = from_note (has_traced T g.tgid) (note_wanted flags g.note) refl refl f
+
+    from_report : (t : Thread) → thread_of T g.tgid ≡ Some t → is_dead t.life ≡ true → not (is_traced t) ≡ true → (o : Option Report) → t.report ≡ o
+        → (report_number o ++ (if has_traced T g.tgid then [] else note_number flags g.note)) ≡ r ∷ ns → FirstOfGroup T flags g r
+    from_report t found dead free None h f = note_left f
+    from_report t found dead free (Some x) h f = record { either = inl (t, found, dead, free, rw h (eq-eqb x.number r cc)) }
+
+    from_leader : (t : Thread) → thread_of T g.tgid ≡ Some t → (b c : Bool) → is_dead t.life ≡ b → not (is_traced t) ≡ c
+        → ((if b && c then report_number t.report else []) ++ (if has_traced T g.tgid then [] else note_number flags g.note)) ≡ r ∷ ns → FirstOfGroup T flags g r
+    from_leader t found true true p q f = from_report t found p q t.report refl f
+    from_leader t found true false p q f = note_left f
+    from_leader t found false c p q f = note_left f
+
+    go : (o : Option Thread) → thread_of T g.tgid ≡ o → (death_number o ++ (if has_traced T g.tgid then [] else note_number flags g.note)) ≡ r ∷ ns → FirstOfGroup T flags g r
+    go None found f = note_left f
+    go (Some t) found f = from_leader t found (is_dead t.life) (not (is_traced t)) refl refl f
+
+starter_admitted : (T : Table) (which : Which) (flags : WaitFlags) → LeadersMatch T → is_empty (ready_for_starter T which flags) ≡ false
+    → (r : ℕ) × (reporting (ready_for_starter T which flags) ≡ gives_report r) × ((is_some (ready_death T which r) || is_some (ready_note T which flags r)) ≡ true)
+starter_admitted T which flags leaders e =
+    let f = first_of_flat (ready_of_group T flags) (led_groups T which) e in
+    let g : Group = f.from in
+    let r : ℕ = f.first in
+    let k = filter_among (λ x. asks_for which x.tgid && is_some (thread_of T x.tgid)) g T.groups f.among in
+    let p = and_parts (asks_for which g.tgid) (is_some (thread_of T g.tgid)) k.1 in
+    let w = first_of_group T flags g r f.more f.is in
+    (r, ap reporting f.all, elim w.either as (λ _. (is_some (ready_death T which r) || is_some (ready_note T which flags r)) ≡ true) [
+      | inl h ↦ or_left (is_some (ready_death T which r)) _ (death_found g r k.0 p.0 h.0 h.1 h.2 h.3 h.4)
+      | inr h ↦ or_right (is_some (ready_death T which r)) _ (noter_found (filter (shows_note T which flags) T.groups) r g
+          (among_filter (shows_note T which flags) g T.groups k.0 (and_from _ _ p.0 (and_from _ _ p.1 (and_from _ _ h.0 h.1)))) h.2)
+    ])
+  where
+    death_found : (g : Group) (r : ℕ) → Among g T.groups → asks_for which g.tgid ≡ true → (t : Thread) → thread_of T g.tgid ≡ Some t → is_dead t.life ≡ true → not (is_traced t) ≡ true → Reporter r t
+        → is_some (ready_death T which r) ≡ true
+    death_found g r m asked t found dead free rep =
+        let k = find_among (λ x. x.id == g.tgid) t T.threads found in
+        let same : t.id ≡ g.tgid = eqb-true t.id g.tgid k.1 in
+        let there : is_some (group_of T t.id) ≡ true = among_find (λ x. x.tgid == t.id) g T.groups m (eq-eqb g.tgid t.id (sym same)) in
+        let leads = each_among (λ x. is_leader x ≡ is_some (group_of T x.id)) t T.threads leaders k.0 ∙ there in
+        let wanted = subst (λ n. asks_for which n ≡ true) (sym same) asked in
+        reporter_found (filter (is_death which) T.threads) r t (among_filter (is_death which) t T.threads k.0 (and_from _ _ dead (and_from _ _ free (and_from _ _ leads wanted)))) rep
+
+clone_admitted : (T : Table) (o : Option Thread) (causes : Thread → List (Option Refusal)) → HasFreeId T → first (thread_then o causes) ≡ None
+    → (new : ℕ) × (clone_choice T o ≡ gives_id new) × (is_new T new ≡ true)
+clone_admitted T None causes free e = cc
+clone_admitted T (Some t) causes free e = (new_id T t.group, refl, new_id_is_new T t.group free)
+
+pub preferred_is_admitted : PreferredIsAdmitted
+preferred_is_admitted T a (event.Take id) free ids s l c q = take_admitted T (thread_of T id) s (not-false _ (something _ q))
+preferred_is_admitted T a (event.TakeAny g) free ids s l c q = take_any_admitted T g ids s (not-false _ (something _ q))
+preferred_is_admitted T a (event.Wait which) free ids s l c q = wait_admitted T a which (something _ q)
+preferred_is_admitted T a (event.StarterWait which flags) free ids s l c q = starter_admitted T which flags l (something _ q)
+preferred_is_admitted T a (event.CloneThread id) free ids s l c q = clone_admitted T (thread_of T id) _ free c
+preferred_is_admitted T a _ free ids s l c q = refl

@@ -1,4 +1,4 @@
-ghost use Rattle.tr_model.specs.Choices.{NothingIsExact};
+ghost use Rattle.tr_model.specs.Choices.{NothingIsExact, PreferredIsAdmitted};
 ghost use Rattle.tr_model.specs.Laws.{CausesAreCauses, StepsAreDetermined};
 
 /// Table and entry together determine reply and table.
@@ -14,4 +14,9 @@ pub fn causes_are_causes()
 /// Where the answer is Nothing, the model admits no choice: nobody can take, and nothing is ready.
 pub fn nothing_is_exact()
     ensures { NothingIsExact }
+{}
+
+/// This product's choice is one that the model admits.
+pub fn preferred_is_admitted()
+    ensures { PreferredIsAdmitted }
 {}
