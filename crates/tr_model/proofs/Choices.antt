@@ -1,8 +1,8 @@
 -- Nothing is answered exactly where the model admits no choice, and this product's choice is one that it admits.
-use Rattle.std.proofs.Common.{◌≡◌, ◌∙◌, ◌≤◌, ◌+◌, ◌==◌, ℕ, List, [], ◌∷◌, ◌++◌, Bool, true, false, not, ◌&&◌, ◌||◌, Option, Some, None, if◌then◌else◌, cond, refl, sym, ap, subst, inl, inr, arith}
-use Rattle.std.specs.Prelude.{◌≢◌, ◌⊎◌, filter, find, flat_map, is_some, IsTrue}
+use Rattle.std.proofs.Common.{◌≡◌, ◌∙◌, ◌==◌, ℕ, List, [], ◌∷◌, ◌++◌, Bool, true, false, not, ◌&&◌, ◌||◌, Option, Some, None, if◌then◌else◌, refl, sym, ap, subst, inl, inr}
+use Rattle.std.specs.Prelude.{◌⊎◌, filter, is_some}
 use Rattle.std.specs.List.{list_any}
-use Rattle.std.proofs.lemmas.Bool.{and_from, and_parts, eq-eqb, eqb-true, not-false, not-true, not_from_false, or_cases, or_left, or_right, true≢false}
+use Rattle.std.proofs.lemmas.Bool.{and_from, and_parts, eq-eqb, eqb-true, not-false, not-true, or_cases, or_left, or_right, true≢false}
 use Rattle.tr_pending.specs.declared.instance.Instance.{Instance}
 use Rattle.tr_wait.specs.Words.{asks_for}
 use Rattle.tr_wait.specs.declared.waits.WaitFlags.{WaitFlags}
@@ -11,19 +11,16 @@ use Rattle.tr_tracee.specs.declared.thread.Report.{Report}
 use Rattle.tr_tracee.specs.declared.thread.Thread.{Thread}
 use Rattle.tr_tracee.specs.Lives.{held, is_dead, message}
 use Rattle.tr_tracee.specs.Threads.{in_group, is_leader, is_traced}
-use Rattle.tr_model.specs.declared.events.Choice.{Choice}
-use Rattle.tr_model.specs.declared.events.Event.{Event}
 use Rattle.tr_model.specs.declared.events.Event.TheVariants as event
 use Rattle.tr_model.specs.declared.replies.Refusal.{Refusal}
-use Rattle.tr_model.specs.declared.replies.Reply.{Reply}
 use Rattle.tr_model.specs.declared.replies.Reply.TheVariants as reply
 use Rattle.tr_model.specs.declared.rows.Group.{Group}
-use Rattle.tr_model.specs.Causes.{can_take_thread, exists_where, first, is_empty, message_of, message_reply, nothing_where, quiet_of, siginfo, siginfo_of, thread_then}
+use Rattle.tr_model.specs.Causes.{can_take_thread, exists_where, first, is_empty, message_of, message_reply, nothing_where, siginfo, siginfo_of, thread_then}
 use Rattle.tr_model.specs.Choices.{IsSorted, LeadersMatch, NothingIsExact, PreferredIsAdmitted}
 use Rattle.tr_model.specs.Journals.{DistinctIds, Each}
 use Rattle.tr_model.specs.Laws.{HasFreeId}
-use Rattle.tr_model.specs.Preferred.{best_for, clone_choice, new_id, preferred, reporting, take_any_choice, take_choice, taking, taking_by}
-use Rattle.tr_model.specs.Steps.{Admits, gives_id, gives_report, is_new, is_of, takes, takes_by, takes_instance}
+use Rattle.tr_model.specs.Preferred.{best_for, clone_choice, new_id, reporting, take_any_choice, take_choice, taking, taking_by}
+use Rattle.tr_model.specs.Steps.{gives_id, gives_report, is_new, is_of, takes, takes_by, takes_instance}
 use Rattle.tr_model.specs.Tables.{Table, group_of, has_traced, members, thread_of}
 use Rattle.tr_model.specs.Takes.{can_take, choices, is_none_left, numbered}
 use Rattle.tr_model.specs.Waits.{asked_tracees, death_number, has_report, is_death, led_groups, note_number, note_wanted, ready, ready_death, ready_for_starter, ready_note, ready_of_group, ready_thread, report_number, shows_note, with_note, with_report}
@@ -145,8 +142,8 @@ leader_ready T which flags r ids leaders e =
     let found : thread_of T x.tgid ≡ Some t = subst (λ n. thread_of T n ≡ Some t) (sym same) (found_by_id t T.threads ids k.0) in
     let shown = subst (λ o. is_empty (death_number o) ≡ false) (sym found) (death_there t r p.0 q.0 h.1) in
     among_flat (ready_of_group T flags) x (led_groups T which)
-      (led T which x d.0 (subst (λ n. asks_for which n ≡ true) (sym same) w.1) (ap is_some found))
-      (empty_before (death_number (thread_of T x.tgid)) (if has_traced T x.tgid then [] else note_number flags x.note) shown)
+    (led T which x d.0 (subst (λ n. asks_for which n ≡ true) (sym same) w.1) (ap is_some found))
+    (empty_before (death_number (thread_of T x.tgid)) (if has_traced T x.tgid then [] else note_number flags x.note) shown)
 
 -- a note that is asked for makes its group ready
 note_ready : (T : Table) (which : Which) (flags : WaitFlags) (r : ℕ) → is_some (ready_note T which flags r) ≡ true → is_empty (ready_for_starter T which flags) ≡ false
@@ -279,12 +276,15 @@ starter_admitted T which flags leaders e =
     let r : ℕ = f.first in
     let k = filter_among (λ x. asks_for which x.tgid && is_some (thread_of T x.tgid)) g T.groups f.among in
     let p = and_parts (asks_for which g.tgid) (is_some (thread_of T g.tgid)) k.1 in
-    let w = first_of_group T flags g r f.more f.is in
-    (r, ap reporting f.all, elim w.either as (λ _. (is_some (ready_death T which r) || is_some (ready_note T which flags r)) ≡ true) [
-      | inl h ↦ or_left (is_some (ready_death T which r)) _ (death_found g r k.0 p.0 h.0 h.1 h.2 h.3 h.4)
-      | inr h ↦ or_right (is_some (ready_death T which r)) _ (noter_found (filter (shows_note T which flags) T.groups) r g
-          (among_filter (shows_note T which flags) g T.groups k.0 (and_from _ _ p.0 (and_from _ _ p.1 (and_from _ _ h.0 h.1)))) h.2)
-    ])
+    let w = first_of_group T flags g r f.more f.is in (
+      r,
+      ap reporting f.all,
+      elim w.either as (λ _. (is_some (ready_death T which r) || is_some (ready_note T which flags r)) ≡ true) [
+        | inl h ↦ or_left (is_some (ready_death T which r)) _ (death_found g r k.0 p.0 h.0 h.1 h.2 h.3 h.4)
+        | inr h ↦ or_right (is_some (ready_death T which r)) _ (noter_found (filter (shows_note T which flags) T.groups) r g
+            (among_filter (shows_note T which flags) g T.groups k.0 (and_from _ _ p.0 (and_from _ _ p.1 (and_from _ _ h.0 h.1)))) h.2)
+      ],
+    )
   where
     death_found : (g : Group) (r : ℕ) → Among g T.groups → asks_for which g.tgid ≡ true → (t : Thread) → thread_of T g.tgid ≡ Some t → is_dead t.life ≡ true → not (is_traced t) ≡ true → Reporter r t
         → is_some (ready_death T which r) ≡ true

@@ -1,7 +1,7 @@
 -- An id that a clone can have is found where one is left.
-use Rattle.std.proofs.Common.{◌≡◌, ◌∙◌, ◌≢◌, ◌≤◌, ◌<◌, ◌+◌, ◌-◌, ◌==◌, zero, suc, ℕ, List, [], ◌∷◌, ◌++◌, length, Bool, true, false, not, ◌&&◌, nat_le, Option, Some, None, if◌then◌else◌, cond, refl, sym, ap, subst, inl, inr, arith}
-use Rattle.std.specs.Prelude.{find, is_some, map}
-use Rattle.std.proofs.lemmas.Bool.{and_cases, eq-eqb, eqb-true, le-leb, true≢false}
+use Rattle.std.proofs.Common.{◌≡◌, ◌≤◌, ◌+◌, ◌-◌, ◌==◌, zero, suc, ℕ, List, [], ◌∷◌, ◌++◌, length, Bool, true, false, ◌&&◌, nat_le, Option, Some, None, if◌then◌else◌, cond, refl, sym, subst, arith}
+use Rattle.std.specs.Prelude.{is_some}
+use Rattle.std.proofs.lemmas.Bool.{le-leb, true≢false}
 use Rattle.std.proofs.lemmas.Bool.Decides.{nat_tests}
 use Rattle.tr_tracee.specs.declared.thread.Thread.{Thread}
 use Rattle.tr_model.specs.declared.rows.Group.{Group}

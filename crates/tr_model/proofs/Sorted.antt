@@ -1,5 +1,5 @@
 -- Lists of waiting instances in order of acceptance, and what keeps the order.
-use Rattle.std.proofs.Common.{◌≡◌, ◌∙◌, ◌≤◌, ◌<◌, ◌+◌, ◌==◌, ℕ, List, [], ◌∷◌, ◌++◌, Bool, true, false, cond, if◌then◌else◌, refl, map, arith}
+use Rattle.std.proofs.Common.{◌≡◌, ◌≤◌, ◌<◌, ◌+◌, ◌==◌, ℕ, List, [], ◌∷◌, ◌++◌, Bool, true, false, cond, if◌then◌else◌, map, arith}
 use Rattle.std.specs.Prelude.{filter}
 use Rattle.tr_pending.specs.declared.instance.Instance.{Instance}
 use Rattle.tr_model.specs.declared.rows.Waiting.{Waiting}

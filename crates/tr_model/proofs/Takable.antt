@@ -1,11 +1,10 @@
 -- What this product takes is one of the instances that the model lets a thread take.
-use Rattle.std.proofs.Common.{◌≡◌, ◌∙◌, ◌≤◌, ◌<◌, ◌+◌, ◌==◌, ℕ, List, [], ◌∷◌, ◌++◌, Bool, true, false, not, ◌&&◌, ◌||◌, nat_le, nat_lt, Option, Some, None, if◌then◌else◌, cond, refl, sym, ap, subst, map, inl, inr, arith}
+use Rattle.std.proofs.Common.{◌≡◌, ◌∙◌, ◌≤◌, ◌<◌, ◌==◌, List, [], ◌∷◌, ◌++◌, Bool, true, false, not, nat_le, Option, Some, None, if◌then◌else◌, cond, refl, sym, ap, subst, inl, inr, arith}
 use Rattle.std.specs.Prelude.{filter, is_some}
 use Rattle.std.specs.List.{list_all}
 use Rattle.std.proofs.lemmas.Bool.{and_from, eq-eqb, leb-false, leb-true, true≢false}
 use Rattle.std.proofs.lemmas.Bool.Decides.{nat_tests}
 use Rattle.tr_sigset.specs.Sets.{has}
-use Rattle.tr_sigset.specs.Signals.{is_real_time}
 use Rattle.tr_sigset.specs.declared.sets.SigSet.{SigSet}
 use Rattle.tr_pending.specs.Waiting.{best_of, rather}
 use Rattle.tr_pending.specs.declared.instance.Instance.{Instance}
@@ -17,7 +16,7 @@ use Rattle.tr_model.specs.declared.rows.Waiting.{Waiting}
 use Rattle.tr_model.specs.Choices.{IsSorted}
 use Rattle.tr_model.specs.Preferred.{best_for, or_other}
 use Rattle.tr_model.specs.Tables.{Table, queue, same_target}
-use Rattle.tr_model.specs.Takes.{can_take, choices, choices_from, choices_in, goes_before, is_none_left, numbered, unblocked}
+use Rattle.tr_model.specs.Takes.{can_take, choices, choices_in, goes_before, is_none_left, numbered, unblocked}
 use Rattle.tr_model.proofs.Among.{Among, among_filter, among_left, among_right}
 use Rattle.tr_model.proofs.Sorted.{InOrder, Past, in_order_filter, sorted_filter, sorted_instances}
 
@@ -50,7 +49,6 @@ all_stay i (j ∷ js) h = and_from (not (goes_before j i)) _ (stays_behind i j h
 none_before_past : (i j : Instance) (is : List Instance) → Past i.n is → i.sig ≤ j.sig → NoneBefore j is → NoneBefore i is
 none_before_past i j [] p h k = tt
 none_before_past i j (x ∷ is) p h k = ((omega (arith, h, k.0.0), λ _. omega (arith, p.0)), none_before_past i j is p.1 h k.1)
-
 
 abbrev IsFirst : Instance → List Instance → Type 0
 IsFirst i is = Among i is × NoneBefore i is
@@ -104,7 +102,7 @@ taking mask own shared o p c = go (best_of mask own) refl (best_of mask shared) 
     }
     go None e None f =
         absurd (true≢false (sym c ∙ (ap (λ x. not (is_none_left (x ++ choices_in (unblocked mask shared)))) (no_choice_left mask own e)
-            ∙ ap (λ x. not (is_none_left x)) (no_choice_left mask shared f))))
+        ∙ ap (λ x. not (is_none_left x)) (no_choice_left mask shared f))))
 
 numbered_there : (i : Instance) (is : List Instance) → Among i is → is_some (numbered i.n is) ≡ true
 numbered_there i [] m = absurd m

@@ -4,9 +4,8 @@ use Rattle.std.specs.List.{list_any}
 use Rattle.tr_sigset.specs.declared.sets.SigSet.{SigSet}
 use Rattle.tr_sigset.specs.Sets.{in_word}
 use Rattle.tr_wait.specs.declared.status.StopSig.TheVariants as stop_sig
-use Rattle.tr_wait.specs.declared.waits.WaitFlags.{WaitFlags}
 use Rattle.tr_wait.specs.declared.waits.Which.TheVariants.{Any, One}
-use Rattle.tr_tracee.specs.declared.life.End.TheVariants.{Exited, Killed}
+use Rattle.tr_tracee.specs.declared.life.End.TheVariants.{Killed}
 use Rattle.tr_tracee.specs.declared.life.Life.{Life}
 use Rattle.tr_tracee.specs.declared.life.Life.TheVariants as life
 use Rattle.tr_tracee.specs.declared.life.Stop.TheVariants as stop

@@ -1,6 +1,5 @@
 -- What the choices lean on, which every table of a journal keeps, and what they are then.
-use Rattle.std.specs.Prelude.{◌≡◌, ◌≢◌, ℕ, ◌<◌, List, [], ◌∷◌, Option, Some, None, is_some}
-use Rattle.tr_tracee.specs.declared.thread.Thread.{Thread}
+use Rattle.std.specs.Prelude.{◌≡◌, ◌≢◌, ℕ, ◌<◌, List, [], ◌∷◌, Some, None, is_some}
 use Rattle.tr_tracee.specs.Threads.{is_leader}
 use Rattle.tr_model.specs.declared.events.Choice.{Choice}
 use Rattle.tr_model.specs.declared.events.Event.{Event}
