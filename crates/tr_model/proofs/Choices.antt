@@ -2,7 +2,7 @@
 use Rattle.std.proofs.Common.{◌≡◌, ◌∙◌, ◌==◌, ℕ, List, [], ◌∷◌, ◌++◌, Bool, true, false, not, ◌&&◌, ◌||◌, Option, Some, None, if◌then◌else◌, refl, sym, ap, subst, inl, inr}
 use Rattle.std.specs.Prelude.{◌⊎◌, filter, is_some}
 use Rattle.std.specs.List.{list_any}
-use Rattle.std.proofs.lemmas.Bool.{and_from, and_parts, eq-eqb, eqb-true, not-false, not-true, or_cases, or_left, or_right, true≢false}
+use Rattle.std.proofs.lemmas.Bool.{and_from, and_parts, eq-eqb, not-false, not-true, or_cases, or_left, or_right, true≢false}
 use Rattle.tr_pending.specs.declared.instance.Instance.{Instance}
 use Rattle.tr_wait.specs.Words.{asks_for}
 use Rattle.tr_wait.specs.declared.waits.WaitFlags.{WaitFlags}
@@ -10,21 +10,21 @@ use Rattle.tr_wait.specs.declared.waits.Which.{Which}
 use Rattle.tr_tracee.specs.declared.thread.Report.{Report}
 use Rattle.tr_tracee.specs.declared.thread.Thread.{Thread}
 use Rattle.tr_tracee.specs.Lives.{held, is_dead, message}
-use Rattle.tr_tracee.specs.Threads.{in_group, is_leader, is_traced}
+use Rattle.tr_tracee.specs.Threads.{in_group, is_traced}
 use Rattle.tr_model.specs.declared.events.Event.TheVariants as event
 use Rattle.tr_model.specs.declared.replies.Refusal.{Refusal}
 use Rattle.tr_model.specs.declared.replies.Reply.TheVariants as reply
 use Rattle.tr_model.specs.declared.rows.Group.{Group}
 use Rattle.tr_model.specs.Causes.{can_take_thread, exists_where, first, is_empty, message_of, message_reply, nothing_where, siginfo, siginfo_of, thread_then}
-use Rattle.tr_model.specs.Choices.{IsSorted, LeadersMatch, NothingIsExact, PreferredIsAdmitted}
-use Rattle.tr_model.specs.Journals.{DistinctIds, Each}
-use Rattle.tr_model.specs.Laws.{HasFreeId}
+use Rattle.tr_model.specs.Choices.{IsSorted, PreferredIsAdmitted}
+use Rattle.tr_model.specs.Journals.{DistinctIds}
+use Rattle.tr_model.specs.Laws.{HasFreeId, NothingIsExact}
 use Rattle.tr_model.specs.Preferred.{best_for, clone_choice, new_id, reporting, take_any_choice, take_choice, taking, taking_by}
 use Rattle.tr_model.specs.Steps.{gives_id, gives_report, is_new, is_of, takes, takes_by, takes_instance}
-use Rattle.tr_model.specs.Tables.{Table, group_of, has_traced, members, thread_of}
+use Rattle.tr_model.specs.Tables.{Table, has_traced, members, thread_of}
 use Rattle.tr_model.specs.Takes.{can_take, choices, is_none_left, numbered}
-use Rattle.tr_model.specs.Waits.{asked_tracees, death_number, has_report, is_death, led_groups, note_number, note_wanted, ready, ready_death, ready_for_starter, ready_note, ready_of_group, ready_thread, report_number, shows_note, with_note, with_report}
-use Rattle.tr_model.proofs.Among.{Among, among_filter, among_find, among_flat, any_among, empty_right, filter_among, find_among, first_of_flat, found_by_id, some_found}
+use Rattle.tr_model.specs.Waits.{asked_tracees, death_number, has_death, has_report, led_groups, note_number, note_wanted, ready, ready_death, ready_for_starter, ready_note, ready_of_group, ready_thread, report_number, shows_note, with_death, with_note, with_report}
+use Rattle.tr_model.proofs.Among.{Among, among_filter, among_flat, any_among, empty_right, filter_among, find_among, first_of_flat, found_by_id, some_found}
 use Rattle.tr_model.proofs.FreeIds.{new_id_is_new}
 use Rattle.tr_model.proofs.Takable.{taken_by_choice}
 
@@ -109,41 +109,38 @@ tracee_ready T a which r e =
 
 -- The starter's reports
 
-each_among : (Q : Thread → Type 0) (t : Thread) (ts : List Thread) → Each Q ts → Among t ts → Q t
-each_among Q t [] c m = absurd m
-each_among Q t (x ∷ ts) c (inl e) = subst Q (sym e) c.0
-each_among Q t (x ∷ ts) c (inr m) = each_among Q t ts c.1 m
-
 -- what makes a group one that is asked for
 led : (T : Table) (which : Which) (g : Group) → Among g T.groups → asks_for which g.tgid ≡ true → is_some (thread_of T g.tgid) ≡ true → Among g (led_groups T which)
 led T which g m asked there = among_filter (λ x. asks_for which x.tgid && is_some (thread_of T x.tgid)) g T.groups m (and_from _ _ asked there)
 
-death_there : (t : Thread) (r : ℕ) → is_dead t.life ≡ true → not (is_traced t) ≡ true → Reporter r t → is_empty (death_number (Some t)) ≡ false
-death_there t r dead free h = rw (dead, free) (number_there r t.report h)
+-- a dead leader's report is its group's
+death_there : (r : ℕ) (o : Option Thread) → has_death r o ≡ true → is_empty (death_number o) ≡ false
+death_there r None h = absurd (true≢false (sym h))
+death_there r (Some t) h =
+    let p = and_parts (is_dead t.life) (not (is_traced t) && has_report r t.report) h in
+    let q = and_parts (not (is_traced t)) (has_report r t.report) p.1 in
+    rw (p.0, q.0) (number_there r t.report q.1)
+
+death_among : (T : Table) (gs : List Group) (r : ℕ) → is_some (with_death T gs r) ≡ true → (g : Group) × Among g gs × (has_death r (thread_of T g.tgid) ≡ true)
+death_among T [] r e = absurd (true≢false (sym e))
+death_among T (x ∷ gs) r e = go (has_death r (thread_of T x.tgid)) refl (death_among T gs r) e
+  where
+    go : (b : Bool) → has_death r (thread_of T x.tgid) ≡ b → (is_some (with_death T gs r) ≡ true → (g : Group) × Among g gs × (has_death r (thread_of T g.tgid) ≡ true))
+        → is_some (if b then thread_of T x.tgid else with_death T gs r) ≡ true → (g : Group) × Among g (x ∷ gs) × (has_death r (thread_of T g.tgid) ≡ true)
+    go true h rest f = (x, inl refl, h)
+    go false h rest f = let k = rest f in (k.0, inr k.1, k.2)
 
 empty_before : (xs ys : List ℕ) → is_empty xs ≡ false → is_empty (xs ++ ys) ≡ false
 empty_before [] ys e = absurd (true≢false e)
 empty_before (x ∷ xs) ys e = refl
 
 -- a dead leader that has a report makes its group ready
-leader_ready : (T : Table) (which : Which) (flags : WaitFlags) (r : ℕ) → DistinctIds T → LeadersMatch T → is_some (ready_death T which r) ≡ true → is_empty (ready_for_starter T which flags) ≡ false
-leader_ready T which flags r ids leaders e =
-    let f = some_found (ready_death T which r) e in
-    let t : Thread = f.0 in
-    let h = reporter_among (filter (is_death which) T.threads) r t f.1 in
-    let k = filter_among (is_death which) t T.threads h.0 in
-    let p = and_parts (is_dead t.life) _ k.1 in
-    let q = and_parts (not (is_traced t)) _ p.1 in
-    let w = and_parts (is_leader t) _ q.1 in
-    let g = some_found (group_of T t.id) (sym (each_among (λ x. is_leader x ≡ is_some (group_of T x.id)) t T.threads leaders k.0) ∙ w.0) in
-    let x : Group = g.0 in
-    let d = find_among (λ y. y.tgid == t.id) x T.groups g.1 in
-    let same : x.tgid ≡ t.id = eqb-true x.tgid t.id d.1 in
-    let found : thread_of T x.tgid ≡ Some t = subst (λ n. thread_of T n ≡ Some t) (sym same) (found_by_id t T.threads ids k.0) in
-    let shown = subst (λ o. is_empty (death_number o) ≡ false) (sym found) (death_there t r p.0 q.0 h.1) in
-    among_flat (ready_of_group T flags) x (led_groups T which)
-    (led T which x d.0 (subst (λ n. asks_for which n ≡ true) (sym same) w.1) (ap is_some found))
-    (empty_before (death_number (thread_of T x.tgid)) (if has_traced T x.tgid then [] else note_number flags x.note) shown)
+leader_ready : (T : Table) (which : Which) (flags : WaitFlags) (r : ℕ) → is_some (ready_death T which r) ≡ true → is_empty (ready_for_starter T which flags) ≡ false
+leader_ready T which flags r e =
+    let k = death_among T (led_groups T which) r e in
+    let g : Group = k.0 in
+    among_flat (ready_of_group T flags) g (led_groups T which) k.1
+    (empty_before (death_number (thread_of T g.tgid)) (if has_traced T g.tgid then [] else note_number flags g.note) (death_there r (thread_of T g.tgid) k.2))
 
 -- a note that is asked for makes its group ready
 note_ready : (T : Table) (which : Which) (flags : WaitFlags) (r : ℕ) → is_some (ready_note T which flags r) ≡ true → is_empty (ready_for_starter T which flags) ≡ false
@@ -158,10 +155,10 @@ note_ready T which flags r e =
     let shown : is_empty (if has_traced T g.tgid then [] else note_number flags g.note) ≡ false = rw (not-true _ w.0, w.1) (number_there r g.note h.1) in
     among_flat (ready_of_group T flags) g (led_groups T which) (led T which g k.0 p.0 q.0) (empty_right (death_number (thread_of T g.tgid)) _ shown)
 
-starter_ready : (T : Table) (which : Which) (flags : WaitFlags) (r : ℕ) → DistinctIds T → LeadersMatch T → (is_some (ready_death T which r) || is_some (ready_note T which flags r)) ≡ true → is_empty (ready_for_starter T which flags) ≡ false
-starter_ready T which flags r ids leaders e =
+starter_ready : (T : Table) (which : Which) (flags : WaitFlags) (r : ℕ) → (is_some (ready_death T which r) || is_some (ready_note T which flags r)) ≡ true → is_empty (ready_for_starter T which flags) ≡ false
+starter_ready T which flags r e =
     elim (or_cases (is_some (ready_death T which r)) (is_some (ready_note T which flags r)) e) as (λ _. is_empty (ready_for_starter T which flags) ≡ false) [
-      | inl h ↦ leader_ready T which flags r ids leaders h
+      | inl h ↦ leader_ready T which flags r h
       | inr h ↦ note_ready T which flags r h
     ]
 
@@ -171,17 +168,17 @@ never : (b : Bool) → nothing_where b ≡ Some reply.Nothing → b ≡ false �
 never b e f = true≢false (sym (where_nothing b e) ∙ f)
 
 pub nothing_is_exact : NothingIsExact
-nothing_is_exact T a (event.Kill g s) c ids leaders x e h = exists_is_something s e
-nothing_is_exact T a (event.Tgkill g id s) c ids leaders x e h = exists_is_something s e
-nothing_is_exact T a (event.Sigqueue g s v) c ids leaders x e h = exists_is_something s e
-nothing_is_exact T a (event.Take id) c ids leaders x e h = never _ e (ap not (thread_can T (thread_of T id) h.0 h.2))
-nothing_is_exact T a (event.TakeAny g) c ids leaders x e h = never _ e (ap not (member_can T g h.0 h.1 h.3 h.4))
-nothing_is_exact T a (event.EventMessage id) c ids leaders x e h = message_is_something (thread_of T id) e
-nothing_is_exact T a (event.SignalInfo id) c ids leaders x e h = siginfo_is_something (thread_of T id) e
-nothing_is_exact T a event.TracerExit c ids leaders x e h = x refl
-nothing_is_exact T a (event.Wait which) c ids leaders x e h = never _ e (tracee_ready T a which h.0 h.2)
-nothing_is_exact T a (event.StarterWait which flags) c ids leaders x e h = never _ e (starter_ready T which flags h.0 ids leaders h.2)
-nothing_is_exact T a _ c ids leaders x e h = cc
+nothing_is_exact T a (event.Kill g s) c x e h = exists_is_something s e
+nothing_is_exact T a (event.Tgkill g id s) c x e h = exists_is_something s e
+nothing_is_exact T a (event.Sigqueue g s v) c x e h = exists_is_something s e
+nothing_is_exact T a (event.Take id) c x e h = never _ e (ap not (thread_can T (thread_of T id) h.0 h.2))
+nothing_is_exact T a (event.TakeAny g) c x e h = never _ e (ap not (member_can T g h.0 h.1 h.3 h.4))
+nothing_is_exact T a (event.EventMessage id) c x e h = message_is_something (thread_of T id) e
+nothing_is_exact T a (event.SignalInfo id) c x e h = siginfo_is_something (thread_of T id) e
+nothing_is_exact T a event.TracerExit c x e h = x refl
+nothing_is_exact T a (event.Wait which) c x e h = never _ e (tracee_ready T a which h.0 h.2)
+nothing_is_exact T a (event.StarterWait which flags) c x e h = never _ e (starter_ready T which flags h.0 h.2)
+nothing_is_exact T a _ c x e h = cc
 
 -- This product's choices
 
@@ -268,9 +265,23 @@ first_of_group T flags g r ns e = go (thread_of T g.tgid) refl e
     go None found f = note_left f
     go (Some t) found f = from_leader t found (is_dead t.life) (not (is_traced t)) refl refl f
 
-starter_admitted : (T : Table) (which : Which) (flags : WaitFlags) → LeadersMatch T → is_empty (ready_for_starter T which flags) ≡ false
+death_found : (T : Table) (gs : List Group) (r : ℕ) (g : Group) → Among g gs → has_death r (thread_of T g.tgid) ≡ true → is_some (with_death T gs r) ≡ true
+death_found T [] r g m h = absurd m
+death_found T (x ∷ gs) r g (inl e) h = rw (subst (λ z. has_death r (thread_of T z.tgid) ≡ true) e h) (someone r (thread_of T x.tgid) (subst (λ z. has_death r (thread_of T z.tgid) ≡ true) e h))
+  where
+    someone : (r : ℕ) (o : Option Thread) → has_death r o ≡ true → is_some o ≡ true
+    someone r None e = absurd (true≢false (sym e))
+    someone r (Some t) e = refl
+death_found T (x ∷ gs) r g (inr m) h = go (has_death r (thread_of T x.tgid)) (thread_of T x.tgid) refl (death_found T gs r g m h)
+  where
+    go : (b : Bool) (o : Option Thread) → has_death r o ≡ b → is_some (with_death T gs r) ≡ true → is_some (if b then o else with_death T gs r) ≡ true
+    go true None e f = absurd (true≢false (sym e))
+    go true (Some t) e f = refl
+    go false o e f = f
+
+starter_admitted : (T : Table) (which : Which) (flags : WaitFlags) → is_empty (ready_for_starter T which flags) ≡ false
     → (r : ℕ) × (reporting (ready_for_starter T which flags) ≡ gives_report r) × ((is_some (ready_death T which r) || is_some (ready_note T which flags r)) ≡ true)
-starter_admitted T which flags leaders e =
+starter_admitted T which flags e =
     let f = first_of_flat (ready_of_group T flags) (led_groups T which) e in
     let g : Group = f.from in
     let r : ℕ = f.first in
@@ -280,21 +291,11 @@ starter_admitted T which flags leaders e =
       r,
       ap reporting f.all,
       elim w.either as (λ _. (is_some (ready_death T which r) || is_some (ready_note T which flags r)) ≡ true) [
-        | inl h ↦ or_left (is_some (ready_death T which r)) _ (death_found g r k.0 p.0 h.0 h.1 h.2 h.3 h.4)
+        | inl h ↦ or_left (is_some (ready_death T which r)) _ (death_found T (led_groups T which) r g f.among (ap (has_death r) h.1 ∙ and_from _ _ h.2 (and_from _ _ h.3 h.4)))
         | inr h ↦ or_right (is_some (ready_death T which r)) _ (noter_found (filter (shows_note T which flags) T.groups) r g
             (among_filter (shows_note T which flags) g T.groups k.0 (and_from _ _ p.0 (and_from _ _ p.1 (and_from _ _ h.0 h.1)))) h.2)
       ],
     )
-  where
-    death_found : (g : Group) (r : ℕ) → Among g T.groups → asks_for which g.tgid ≡ true → (t : Thread) → thread_of T g.tgid ≡ Some t → is_dead t.life ≡ true → not (is_traced t) ≡ true → Reporter r t
-        → is_some (ready_death T which r) ≡ true
-    death_found g r m asked t found dead free rep =
-        let k = find_among (λ x. x.id == g.tgid) t T.threads found in
-        let same : t.id ≡ g.tgid = eqb-true t.id g.tgid k.1 in
-        let there : is_some (group_of T t.id) ≡ true = among_find (λ x. x.tgid == t.id) g T.groups m (eq-eqb g.tgid t.id (sym same)) in
-        let leads = each_among (λ x. is_leader x ≡ is_some (group_of T x.id)) t T.threads leaders k.0 ∙ there in
-        let wanted = subst (λ n. asks_for which n ≡ true) (sym same) asked in
-        reporter_found (filter (is_death which) T.threads) r t (among_filter (is_death which) t T.threads k.0 (and_from _ _ dead (and_from _ _ free (and_from _ _ leads wanted)))) rep
 
 clone_admitted : (T : Table) (o : Option Thread) (causes : Thread → List (Option Refusal)) → HasFreeId T → first (thread_then o causes) ≡ None
     → (new : ℕ) × (clone_choice T o ≡ gives_id new) × (is_new T new ≡ true)
@@ -302,9 +303,9 @@ clone_admitted T None causes free e = cc
 clone_admitted T (Some t) causes free e = (new_id T t.group, refl, new_id_is_new T t.group free)
 
 pub preferred_is_admitted : PreferredIsAdmitted
-preferred_is_admitted T a (event.Take id) free ids s l c q = take_admitted T (thread_of T id) s (not-false _ (something _ q))
-preferred_is_admitted T a (event.TakeAny g) free ids s l c q = take_any_admitted T g ids s (not-false _ (something _ q))
-preferred_is_admitted T a (event.Wait which) free ids s l c q = wait_admitted T a which (something _ q)
-preferred_is_admitted T a (event.StarterWait which flags) free ids s l c q = starter_admitted T which flags l (something _ q)
-preferred_is_admitted T a (event.CloneThread id) free ids s l c q = clone_admitted T (thread_of T id) _ free c
-preferred_is_admitted T a _ free ids s l c q = refl
+preferred_is_admitted T a (event.Take id) free ids s c q = take_admitted T (thread_of T id) s (not-false _ (something _ q))
+preferred_is_admitted T a (event.TakeAny g) free ids s c q = take_any_admitted T g ids s (not-false _ (something _ q))
+preferred_is_admitted T a (event.Wait which) free ids s c q = wait_admitted T a which (something _ q)
+preferred_is_admitted T a (event.StarterWait which flags) free ids s c q = starter_admitted T which flags (something _ q)
+preferred_is_admitted T a (event.CloneThread id) free ids s c q = clone_admitted T (thread_of T id) _ free c
+preferred_is_admitted T a _ free ids s c q = refl

@@ -1,5 +1,5 @@
-ghost use Rattle.tr_model.specs.Choices.{NothingIsExact, PreferredIsAdmitted};
-ghost use Rattle.tr_model.specs.Laws.{CausesAreCauses, StepsAreDetermined};
+ghost use Rattle.tr_model.specs.Choices.{PreferredIsAdmitted};
+ghost use Rattle.tr_model.specs.Laws.{CausesAreCauses, NothingIsExact, StepsAreDetermined};
 
 /// Table and entry together determine reply and table.
 pub fn steps_are_determined()
