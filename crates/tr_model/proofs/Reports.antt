@@ -509,15 +509,45 @@ by_wait before taken a which r w p h = go (some_found _ h)
         let m = (member_filter _ x.0 w.table.threads (member_filter _ x.0 (Requests.tracees w.table a) f.0).0).0 in
         subst (λ o. Reported before (taken ++ r ∷ []) (Moves.on_thread o Waits.consume w)) (sym x.1) (consumed-reported before taken r x.0 w p m f.1)
 
+in_table : (id : ℕ) (t : Thread) (ts : List Thread) → Tables.thread_in ts id ≡ Some t → Member t ts
+in_table id t [] e = absurd (no_thread t e)
+in_table id t (x ∷ ts) e = go (x.id == id) e (in_table id t ts)
+  where
+    go : (b : Bool) → (if b then Some x else Tables.thread_in ts id) ≡ Some t → (Tables.thread_in ts id ≡ Some t → Member t ts) → (x ≡ t) ⊎ Member t ts
+    go true q ih = inl (thread_same x t q)
+    go false q ih = inr (ih q)
+
+-- a dead leader that has the report
+record HasDeath (r : ℕ) (t : Thread) (ts : List Thread) : Type 0 where
+  there : Member t ts
+  dead : Lives.is_dead t.life ≡ true
+  untraced : not (Threads.is_traced t) ≡ true
+  report : Waits.has_report r t.report ≡ true
+
+death_found : (T : Table) (r : ℕ) (t : Thread) (gs : List Group) → Waits.with_death T gs r ≡ Some t → HasDeath r t T.threads
+death_found T r t [] e = absurd (no_thread t e)
+death_found T r t (g ∷ gs) e = go (Tables.thread_of T g.tgid) refl e (death_found T r t gs)
+  where
+    by_thread : (x : Thread) → Tables.thread_of T g.tgid ≡ Some x → (b : Bool) → Waits.has_death r (Some x) ≡ b → (if b then Some x else Waits.with_death T gs r) ≡ Some t → (Waits.with_death T gs r ≡ Some t → HasDeath r t T.threads) → HasDeath r t T.threads
+    by_thread x f true h q ih =
+        let s = thread_same x t q in
+        let p = and_parts _ _ h in
+        let u = and_parts _ _ p.1 in
+        subst (λ y. HasDeath r y T.threads) s (record { there = in_table g.tgid x T.threads f; dead = p.0; untraced = u.0; report = u.1 })
+    by_thread x f false h q ih = ih q
+
+    go : (o : Option Thread) → Tables.thread_of T g.tgid ≡ o → (if Waits.has_death r o then o else Waits.with_death T gs r) ≡ Some t → (Waits.with_death T gs r ≡ Some t → HasDeath r t T.threads) → HasDeath r t T.threads
+    go None f q ih = ih q
+    go (Some x) f q ih = by_thread x f (Waits.has_death r (Some x)) refl q ih
+
 by_starter : (before : List Raise) (taken : List ℕ) (which : Which) (flags : WaitFlags) (r : ℕ) (w : Work) → Reported before taken w → (is_some (Waits.ready_death w.table which r) || is_some (Waits.ready_note w.table which flags r)) ≡ true
     → Reported before (taken ++ r ∷ []) (Waits.starter_takes (Waits.ready_death w.table which r) (Waits.ready_note w.table which flags r) w)
 by_starter before taken which flags r w p h = go (Waits.ready_death w.table which r) (Waits.ready_note w.table which flags r) refl refl h
   where
     go : (o : Option Thread) (n : Option Group) → Waits.ready_death w.table which r ≡ o → Waits.ready_note w.table which flags r ≡ n → (is_some o || is_some n) ≡ true → Reported before (taken ++ r ∷ []) (Waits.starter_takes o n w)
     go (Some t) n e f q =
-        let x = found_in r t _ e in
-        let m = member_filter (Waits.is_death which) t w.table.threads x.0 in
-        taken_off before taken r t w p m.0 x.1 (and_parts _ _ m.1).0
+        let x = death_found w.table r t _ e in
+        taken_off before taken r t w p x.there x.report x.dead
     go None (Some g) e f q =
         let x = found_note r g _ f in
         note_cleared before taken r g w p (group_filter _ g w.table.groups x.0) x.1
@@ -619,10 +649,9 @@ event_raised raised taken T a (event.StarterWait which flags) c s h r i = go (Wa
     go : (o : Option Thread) (n : Option Group) → Waits.ready_death T which h.0 ≡ o → Waits.ready_note T which flags h.0 ≡ n → (is_some o || is_some n) ≡ true → IsIn r (h.0 ∷ []) → WasRaised r None raised
     go o n e f q (inr z) = absurd z
     go (Some t) n e f q (inl y) =
-        let x = found_in h.0 t _ e in
-        let m = member_filter (Waits.is_death which) t T.threads x.0 in
-        let w = owned_number raised h.0 t.report (Threads.tracer_of t.trace) (each_member (Owned raised) t T.threads s.threads m.0) x.1 in
-        subst (λ k. WasRaised k None raised) y (subst (λ whom. WasRaised h.0 whom raised) (untraced_whom t.trace (and_parts _ _ (and_parts _ _ m.1).1).0) w)
+        let x = death_found T h.0 t _ e in
+        let w = owned_number raised h.0 t.report (Threads.tracer_of t.trace) (each_member (Owned raised) t T.threads s.threads x.there) x.report in
+        subst (λ k. WasRaised k None raised) y (subst (λ whom. WasRaised h.0 whom raised) (untraced_whom t.trace x.untraced) w)
     go None (Some g) e f q (inl y) =
         let x = found_note h.0 g _ f in
         subst (λ k. WasRaised k None raised) y (owned_number raised h.0 g.note None (each_group (OwnedNote raised) g T.groups s.groups (group_filter _ g T.groups x.0)) x.1)

@@ -1,5 +1,5 @@
 -- Journals: replay, and what their entries ended, raised, consumed, took and killed.
-use Rattle.std.specs.Prelude.{◌≡◌, ℕ, ◌+◌, ◌≤◌, zero, suc, List, [], ◌∷◌, ◌++◌, length, Bool, true, false, not, ◌&&◌, ◌==◌, nat_le, Option, Some, None, if◌then◌else◌, ◌⊎◌, slice_get}
+use Rattle.std.specs.Prelude.{◌≡◌, ℕ, ◌+◌, ◌<◌, ◌≤◌, zero, suc, List, [], ◌∷◌, ◌++◌, length, Bool, true, false, not, ◌&&◌, ◌==◌, nat_le, Option, Some, None, if◌then◌else◌, ◌⊎◌, slice_get}
 use Rattle.tr_pending.specs.declared.instance.Instance.{Instance}
 use Rattle.tr_tracee.specs.declared.life.Life.{Life}
 use Rattle.tr_tracee.specs.declared.life.Life.TheVariants as life
@@ -49,6 +49,15 @@ ids_of (t ∷ ts) = t.id ∷ ids_of ts
 
 abbrev pub DistinctIds : Table → Type 0
 DistinctIds T = (n : ℕ) → occurs n (ids_of T.threads) ≤ 1
+
+abbrev pub AllAbove : ℕ → List Waiting → Type 0
+AllAbove n [] = Unit {0}
+AllAbove n (q ∷ qs) = (n < q.instance.n) × AllAbove n qs
+
+-- what waits stands in order of acceptance
+abbrev pub IsSorted : List Waiting → Type 0
+IsSorted [] = Unit {0}
+IsSorted (q ∷ qs) = AllAbove q.instance.n qs × IsSorted qs
 
 -- Starts
 

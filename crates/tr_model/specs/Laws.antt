@@ -21,7 +21,7 @@ use Rattle.tr_model.specs.declared.rows.Group.{Group}
 use Rattle.tr_model.specs.declared.rows.Target.{Target}
 use Rattle.tr_model.specs.declared.rows.Target.TheVariants as target
 use Rattle.tr_model.specs.Causes.{cause_of, quiet_of}
-use Rattle.tr_model.specs.Journals.{Each, EachGroup, DistinctIds, HasFate, IsIn, IsStart, Replay, Taken, WasRaised, consumed, consumed_by, consumer, ended_as, ended_by, held_numbers, killed_by, numbers_of, occurs, or_pending, raised_by, renamed_by, taken, totals, waiting_numbers}
+use Rattle.tr_model.specs.Journals.{Each, EachGroup, DistinctIds, HasFate, IsIn, IsSorted, IsStart, Replay, Taken, WasRaised, consumed, consumed_by, consumer, ended_as, ended_by, held_numbers, killed_by, numbers_of, occurs, or_pending, raised_by, renamed_by, taken, totals, waiting_numbers}
 use Rattle.tr_model.specs.Preferred.{preferred}
 use Rattle.tr_model.specs.Steps.{Admits, Step, work_of}
 use Rattle.tr_model.specs.Tables.{Table, thread_of}
@@ -141,6 +141,10 @@ abbrev pub NumbersAreAccepted : Type 0
 NumbersAreAccepted = (T U : Table) (es : List Entry) (rs : List Reply) → IsStart T → Replay T es rs U
     → (n : ℕ) → IsIn n (waiting_numbers U.waiting ++ held_numbers U.threads) → (1 ≤ n) × (n ≤ U.accepted)
 
+-- what waits stands in order of acceptance
+abbrev pub WaitingIsSorted : Type 0
+WaitingIsSorted = (T U : Table) (es : List Entry) (rs : List Reply) → IsStart T → Replay T es rs U → IsSorted U.waiting
+
 -- what one entry does to the two numbers
 pub record IsBounded (T U : Table) : Type 0 where
   pub accepted_grows : T.accepted ≤ U.accepted
@@ -172,7 +176,7 @@ HasFreeId T = length T.threads + length T.groups < 4194302
 
 -- this product's choice is one that the model admits
 abbrev pub PreferredIsAdmitted : Type 0
-PreferredIsAdmitted = (T : Table) (a : ℕ) (e : Event) → HasFreeId T → cause_of T a e ≡ None → quiet_of T a e ≡ None → Admits T a e (preferred T a e)
+PreferredIsAdmitted = (T : Table) (a : ℕ) (e : Event) → HasFreeId T → DistinctIds T → IsSorted T.waiting → cause_of T a e ≡ None → quiet_of T a e ≡ None → Admits T a e (preferred T a e)
 
 -- where the answer is Nothing, the model admits no choice: nobody can take, nothing is ready
 abbrev pub NothingIsExact : Type 0

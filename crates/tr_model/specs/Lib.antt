@@ -12,5 +12,6 @@ pub mod Waits
 pub mod Causes
 pub mod Steps
 pub mod Preferred
+pub mod Runs
 pub mod Journals
 pub mod Laws

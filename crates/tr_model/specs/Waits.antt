@@ -1,5 +1,5 @@
 -- Which reports a wait may give, and what a wait that gives one does: waitpid(2), and "Death under ptrace" of ptrace(2).
-use Rattle.std.specs.Prelude.{ℕ, ◌==◌, List, [], ◌∷◌, ◌++◌, Bool, true, false, not, ◌&&◌, Option, Some, None, if◌then◌else◌, filter, flat_map, is_some}
+use Rattle.std.specs.Prelude.{ℕ, ◌==◌, List, [], ◌∷◌, ◌++◌, Bool, false, not, ◌&&◌, Option, Some, None, if◌then◌else◌, filter, flat_map, is_some}
 use Rattle.tr_wait.specs.declared.status.Status.{Status}
 use Rattle.tr_wait.specs.declared.status.Status.TheVariants as status
 use Rattle.tr_wait.specs.declared.waits.WaitFlags.{WaitFlags}
@@ -77,12 +77,17 @@ with_note (g ∷ gs) r = if has_report r g.note then Some g else with_note gs r
 abbrev pub ready_thread : Table → ℕ → Which → ℕ → Option Thread
 ready_thread T a which r = with_report (asked_tracees T a which) r
 
-abbrev pub is_death : Which → Thread → Bool
-is_death which t = is_dead t.life && (not (is_traced t) && (is_leader t && asks_for which t.id))
+abbrev pub has_death : ℕ → Option Thread → Bool
+has_death r None = false
+has_death r (Some t) = is_dead t.life && (not (is_traced t) && has_report r t.report)
+
+abbrev pub with_death : Table → List Group → ℕ → Option Thread
+with_death T [] r = None
+with_death T (g ∷ gs) r = if has_death r (thread_of T g.tgid) then thread_of T g.tgid else with_death T gs r
 
 -- the dead leader that has the report
 abbrev pub ready_death : Table → Which → ℕ → Option Thread
-ready_death T which r = with_report (filter (is_death which) T.threads) r
+ready_death T which r = with_death T (led_groups T which) r
 
 abbrev pub shows_note : Table → Which → WaitFlags → Group → Bool
 shows_note T which flags g = asks_for which g.tgid && (is_some (thread_of T g.tgid) && (not (has_traced T g.tgid) && note_wanted flags g.note))

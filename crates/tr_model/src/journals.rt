@@ -11,6 +11,7 @@ ghost use Rattle.tr_model.specs.Laws.{
   TakesAreInOrder,
   IdsAreDistinct,
   NumbersAreAccepted,
+  WaitingIsSorted,
   EntriesAreBounded,
   SomeIdIsFree,
 };
@@ -51,11 +52,12 @@ pub fn first_accepted_first_taken()
     ensures { TakesAreInOrder }
 {}
 
-/// What a kernel leans on: ids in a table are distinct and some id is free, what waits or is held was accepted, and
-/// an entry accepts at most 1,024 signals and raises at most 2,048 reports.
+/// What a kernel leans on: ids in a table are distinct and some id is free, what waits stands in order of acceptance,
+/// what waits or is held was accepted, and an entry accepts at most 1,024 signals and raises at most 2,048 reports.
 pub fn tables_are_sound()
     ensures ids { IdsAreDistinct }
     ensures free { SomeIdIsFree }
+    ensures sorted { WaitingIsSorted }
     ensures numbers { NumbersAreAccepted }
     ensures bounded { EntriesAreBounded }
 {}
