@@ -1,2 +1,3 @@
 pub mod Starts
 pub mod View
+pub mod Changes

@@ -1,6 +1,8 @@
 ghost use Rattle.std.specs.Prelude.{◌≡◌, ◌+◌, ◌<◌, ◌≤◌, OnOk, OnErr, option_copied};
 ghost use Rattle.tr_model.specs.Tables.{group_in, thread_in};
 
+use crate::groups::find_group;
+use crate::threads::{Threads, find_thread};
 use std::alloc::{AllocError, Global};
 use std::marker::Model;
 use tr_model::{Group, Waiting};
@@ -9,7 +11,7 @@ use tr_tracee::Thread;
 /// The kernel's table: its threads and groups in table order, and all pending instances in order of acceptance.
 #[derive(Drop)]
 pub struct Table {
-    pub(crate) threads: Vec<Thread>,
+    pub(crate) threads: Threads,
     pub(crate) groups: Vec<Group>,
     pub(crate) waiting: Vec<Waiting>,
     pub(crate) accepted: u64,
@@ -25,7 +27,7 @@ impl Model for Table {
     ghost Value = { View };
 
     ghost view = { λ t. record {
-      table = record { threads = t.threads.items; groups = t.groups.items; waiting = t.waiting.items; accepted = t.accepted; raised = t.raised; limit = t.limit; entries = t.entries };
+      table = record { threads = t.threads; groups = t.groups.items; waiting = t.waiting.items; accepted = t.accepted; raised = t.raised; limit = t.limit; entries = t.entries };
       room = vec_capacity t.waiting - vec_len t.waiting;
     } };
 }
@@ -35,7 +37,7 @@ impl Table {
     pub fn find(&self, id: u32) -> Option<&Thread>
         ensures { option_copied result ≡ thread_in self.now.table.threads id }
     {
-        find_thread(&self.threads, id)
+        find_thread(self.threads.as_slice(), id)
     }
 
     /// The record of a group.
@@ -72,16 +74,4 @@ impl Table {
     {
         self.entries
     }
-}
-
-fn find_thread(threads: &[Thread], id: u32) -> Option<&Thread>
-    ensures { option_copied result ≡ thread_in threads.now id }
-{
-    threads.iter().find(|t| t.id == id)
-}
-
-fn find_group(groups: &[Group], tgid: u32) -> Option<&Group>
-    ensures { option_copied result ≡ group_in groups.now tgid }
-{
-    groups.iter().find(|g| g.tgid == tgid)
 }

@@ -1,7 +1,7 @@
 use Rattle.std.proofs.Common.{◌≡◌, ◌<◌, ◌++◌, take, drop}
 use Rattle.tr_tracee.specs.declared.thread.Thread.{Thread}
 use Rattle.tr_group.specs.Members.{count_in, member, put_member}
-use Rattle.tr_table.proofs.members.place_of.Given as goal
+use Rattle.tr_table.proofs.threads.place_of.Given as goal
 
 abbrev pub invariant-loop-place : goal.invariant-loop-place
 invariant-loop-place l = record {

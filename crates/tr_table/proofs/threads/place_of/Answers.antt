@@ -1,6 +1,6 @@
 use Rattle.std.proofs.Common.{◌∙◌, sym}
 use Rattle.tr_table.proofs.MembersKept.{member_here, put_here}
-use Rattle.tr_table.proofs.members.place_of.Goals as goal
+use Rattle.tr_table.proofs.threads.place_of.Goals as goal
 
 pub returns-then-left-eq0-clause-found : goal.returns-then-left-eq0-clause-found
 returns-then-left-eq0-clause-found c =

@@ -1,0 +1,12 @@
+use Rattle.std.proofs.Common.{◌≡◌, ◌≤◌, ◌+◌, map, filter, length, take, ◌++◌, vec_len, vec_capacity}
+use Rattle.tr_model.specs.declared.fates.Fate.TheVariants.{Flushed}
+use Rattle.tr_model.specs.Moves.{ending_of}
+use Rattle.tr_table.specs.Changes.{is_flushed}
+use Rattle.tr_table.proofs.waiting.log_flushed.Given as goal
+
+abbrev pub invariant-loop-w : goal.invariant-loop-w
+invariant-loop-w l =
+    (l.ended.items ≡ l.fn.ended.items ++ map (ending_of Flushed) (filter (is_flushed l.threads l.tgid l.flush) (take l.w-index l.waiting)))
+    × (vec_len l.ended ≡ vec_len l.fn.ended + length (filter (is_flushed l.threads l.tgid l.flush) (take l.w-index l.waiting)))
+    × (vec_len l.ended ≤ vec_len l.fn.ended + l.w-index)
+    × (vec_capacity l.ended ≡ vec_capacity l.fn.ended)

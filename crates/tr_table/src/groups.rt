@@ -1,0 +1,137 @@
+ghost use Rattle.std.specs.Prelude.{◌≡◌, ◌+◌, ◌-◌, map, option_copied, slice_index_or};
+ghost use Rattle.tr_group.specs.declared.stops.Action.TheVariants.{Default};
+ghost use Rattle.tr_model.specs.Moves.{group_changed, only_group, with_note};
+ghost use Rattle.tr_model.specs.Tables.{actions_of, end_of, group_in, stop_of};
+ghost use Rattle.tr_table.specs.Changes.{regrouped};
+
+use tr_group::{Action, GroupStop};
+use tr_model::Group;
+use tr_sigset::Signal;
+use tr_tracee::{End, Report};
+use tr_wait::Status;
+
+/// What happens to the record of a group.
+#[derive(Clone, Copy, Debug)]
+pub enum GroupChange {
+    /// A group-stop begins.
+    Begin(Signal),
+    /// The group-stop in effect ends.
+    EndStop,
+    /// The group-stop under way is complete.
+    Complete,
+    /// It begins to die, with this end unless it is dying already.
+    Die(End),
+}
+
+fn changed_by(change: &GroupChange, group: &Group) -> Group
+    ensures { result ≡ regrouped change.now group.now }
+{
+    let mut changed = *group;
+    match change {
+        GroupChange::Begin(signal) => changed.group_stop.begin(*signal),
+        GroupChange::EndStop => {
+            changed.group_stop = GroupStop::No;
+            changed.note = None;
+        }
+        GroupChange::Complete => changed.group_stop.complete(),
+        GroupChange::Die(end) => die(&mut changed, end),
+    }
+    changed
+}
+
+fn die(group: &mut Group, end: &End)
+    ensures { group.new ≡ regrouped (GroupChange.Die end.now) group.old }
+{
+    if group.end.is_none() {
+        group.end = Some(*end);
+    }
+    group.group_stop = GroupStop::No;
+    group.note = None;
+}
+
+fn changed_in(tgid: u32, change: &GroupChange, group: &Group) -> Group
+    ensures { result ≡ only_group tgid (regrouped change.now) group.now }
+{
+    if group.tgid == tgid {
+        changed_by(change, group)
+    } else {
+        *group
+    }
+}
+
+fn change_each(groups: &mut [Group], tgid: u32, change: &GroupChange)
+    ensures { groups.new ≡ map (only_group tgid (regrouped change.now)) groups.old }
+{
+    for group in groups.iter_mut() {
+        *group = changed_in(tgid, change, group);
+    }
+}
+
+/// What happens to the group with the id.
+pub(crate) fn change_groups(groups: &mut Vec<Group>, tgid: u32, change: &GroupChange)
+    ensures items { groups.new.items ≡ map (only_group tgid (regrouped change.now)) groups.old.items }
+{
+    change_each(groups, tgid, change);
+}
+
+fn with_note(number: u64, status: &Status, group: &Group) -> Group
+    ensures { result ≡ with_note number status.now group.now }
+{
+    let mut changed = *group;
+    changed.note = Some(Report {
+        number,
+        status: *status,
+    });
+    changed
+}
+
+fn note_first(groups: &mut [Group], tgid: u32, number: u64, status: &Status)
+    ensures { groups.new ≡ group_changed tgid (with_note number status.now) groups.old }
+{
+    for i in 0..groups.len() {
+        if groups[i].tgid == tgid {
+            groups[i] = with_note(number, status, &groups[i]);
+            return;
+        }
+    }
+}
+
+/// The note of this number stands at the group with the id.
+pub(crate) fn note_groups(groups: &mut Vec<Group>, tgid: u32, number: u64, status: &Status)
+    ensures items { groups.new.items ≡ group_changed tgid (with_note number status.now) groups.old.items }
+{
+    note_first(groups, tgid, number, status);
+}
+
+pub(crate) fn find_group(groups: &[Group], tgid: u32) -> Option<&Group>
+    ensures { option_copied result ≡ group_in groups.now tgid }
+{
+    groups.iter().find(|g| g.tgid == tgid)
+}
+
+pub(crate) fn stop_in(groups: &[Group], tgid: u32) -> GroupStop
+    ensures { result ≡ stop_of (group_in groups.now tgid) }
+{
+    match find_group(groups, tgid) {
+        Some(group) => group.group_stop,
+        None => GroupStop::No,
+    }
+}
+
+pub(crate) fn end_in(groups: &[Group], tgid: u32) -> Option<End>
+    ensures { result ≡ end_of (group_in groups.now tgid) }
+{
+    match find_group(groups, tgid) {
+        Some(group) => group.end,
+        None => None,
+    }
+}
+
+pub(crate) fn action_in(groups: &[Group], tgid: u32, signal: Signal) -> Action
+    ensures { result ≡ slice_index_or (actions_of (group_in groups.now tgid)) (signal - 1) Default }
+{
+    match find_group(groups, tgid) {
+        Some(group) => group.actions[usize::from(signal.number() - 1)],
+        None => Action::Default,
+    }
+}

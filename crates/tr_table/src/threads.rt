@@ -1,0 +1,234 @@
+ghost use Rattle.std.specs.Prelude.{◌≡◌, ◌+◌, ◌<◌, ◌≤◌, ◌&&◌, Some, length, filter, map, option_copied, slice_get, slice_set};
+ghost use Rattle.std.specs.List.{list_all, list_any};
+ghost use Rattle.tr_sigset.specs.Sets.{has};
+ghost use Rattle.tr_tracee.specs.Lives.{is_dead, is_live};
+ghost use Rattle.tr_tracee.specs.Threads.{in_group, is_traced, only};
+ghost use Rattle.tr_tracee.specs.Stops.{entered_as};
+ghost use Rattle.tr_group.specs.Members.{count_in, member, put_member};
+ghost use Rattle.tr_model.specs.Moves.{changed};
+ghost use Rattle.tr_model.specs.Tables.{owner_in, thread_in};
+ghost use Rattle.tr_table.specs.Changes.{own};
+
+use std::alloc::{AllocError, Global};
+use std::marker::Model;
+use tr_group::Members;
+use tr_model::Target;
+use tr_sigset::{SigSet, Signal};
+use tr_tracee::{Stop, Thread};
+
+/// The threads of a table, in table order.
+#[derive(Drop)]
+pub(crate) struct Threads {
+    list: Vec<Thread>,
+}
+
+impl Model for Threads {
+    ghost use Rattle.std.specs.Prelude.{List};
+    ghost use Rattle.tr_tracee.specs.declared.thread.Thread.{Thread};
+
+    ghost Value = { List Thread };
+
+    ghost view = { λ t. t.list.items };
+}
+
+/// What happens to the record of one thread.
+#[derive(Clone, Copy, Debug)]
+pub enum Own {
+    /// It sets its mask.
+    Mask(SigSet),
+    /// It begins or ends a pause.
+    Pausing(bool),
+}
+
+impl Members for Threads {
+    ghost threads = { λ ts. ts };
+
+    fn count(&self, tgid: u32) -> usize {
+        count_of(&self.list, tgid)
+    }
+
+    fn at(&self, tgid: u32, i: usize) -> Thread {
+        let place = place_of(&self.list, tgid, i);
+        self.list[place]
+    }
+
+    fn put(&mut self, tgid: u32, i: usize, thread: Thread) {
+        let place = place_of(&self.list, tgid, i);
+        self.list[place] = thread;
+    }
+}
+
+impl Threads {
+    pub(crate) fn as_slice(&self) -> &[Thread]
+        ensures { result.now ≡ self.now }
+    {
+        self.list.as_slice()
+    }
+
+    /// What happens to the thread with the id.
+    pub(crate) fn change(&mut self, id: u32, change: &Own)
+        ensures { self.new ≡ map (only id (own change.now)) self.old }
+    {
+        change_each(&mut self.list, id, change);
+    }
+
+    /// The thread with the id enters a ptrace-stop, with the report of this number.
+    pub(crate) fn enter(&mut self, id: u32, number: u64, stop: &Stop)
+        ensures { self.new ≡ changed id (entered_as number stop.now) self.old }
+    {
+        enter_first(&mut self.list, id, number, stop);
+    }
+}
+
+fn changed_by(change: &Own, thread: &Thread) -> Thread
+    ensures { result ≡ own change.now thread.now }
+{
+    let mut changed = *thread;
+    match change {
+        Own::Mask(set) => changed.set_mask(*set),
+        Own::Pausing(pausing) => changed.set_pausing(*pausing),
+    }
+    changed
+}
+
+fn changed_in(id: u32, change: &Own, thread: &Thread) -> Thread
+    ensures { result ≡ only id (own change.now) thread.now }
+{
+    if thread.id == id {
+        changed_by(change, thread)
+    } else {
+        *thread
+    }
+}
+
+fn change_each(threads: &mut [Thread], id: u32, change: &Own)
+    ensures { threads.new ≡ map (only id (own change.now)) threads.old }
+{
+    for thread in threads.iter_mut() {
+        *thread = changed_in(id, change, thread);
+    }
+}
+
+fn entered(number: u64, stop: &Stop, thread: &Thread) -> Thread
+    ensures { result ≡ entered_as number stop.now thread.now }
+{
+    let mut changed = *thread;
+    changed.enter(stop, number);
+    changed
+}
+
+fn enter_first(threads: &mut [Thread], id: u32, number: u64, stop: &Stop)
+    ensures { threads.new ≡ changed id (entered_as number stop.now) threads.old }
+{
+    for i in 0..threads.len() {
+        if threads[i].id == id {
+            threads[i] = entered(number, stop, &threads[i]);
+            return;
+        }
+    }
+}
+
+pub(crate) fn find_thread(threads: &[Thread], id: u32) -> Option<&Thread>
+    ensures { option_copied result ≡ thread_in threads.now id }
+{
+    threads.iter().find(|t| t.id == id)
+}
+
+pub(crate) fn owner_of(threads: &[Thread], target: Target) -> u32
+    ensures { result ≡ owner_in threads.now target }
+{
+    match target {
+        Target::Group(tgid) => tgid,
+        Target::Thread(id) => match find_thread(threads, id) {
+            Some(thread) => thread.group,
+            None => 0,
+        },
+    }
+}
+
+// Tests of the threads of one group
+
+pub(crate) fn has_traced(threads: &[Thread], tgid: u32) -> bool
+    ensures { result ≡ list_any is_traced (filter (in_group tgid) threads.now) }
+{
+    threads
+        .iter()
+        .filter(|t| t.group == tgid)
+        .any(|t| t.is_traced())
+}
+
+pub(crate) fn all_dead(threads: &[Thread], tgid: u32) -> bool
+    ensures { result ≡ list_all (λ t. is_dead t.life) (filter (in_group tgid) threads.now) }
+{
+    threads
+        .iter()
+        .filter(|t| t.group == tgid)
+        .all(|t| t.life.is_dead())
+}
+
+pub(crate) fn has_live(threads: &[Thread], tgid: u32) -> bool
+    ensures { result ≡ list_any (λ t. is_live t.life) (filter (in_group tgid) threads.now) }
+{
+    threads
+        .iter()
+        .filter(|t| t.group == tgid)
+        .any(|t| t.life.is_live())
+}
+
+pub(crate) fn has_stop_mark(threads: &[Thread], tgid: u32) -> bool
+    ensures { result ≡ list_any (λ t. t.stop_mark) (filter (in_group tgid) threads.now) }
+{
+    threads
+        .iter()
+        .filter(|t| t.group == tgid)
+        .any(|t| t.stop_mark)
+}
+
+fn blocks(thread: &Thread, signal: Signal) -> bool
+    ensures { result ≡ (is_live thread.now.life && has thread.now.mask signal) }
+{
+    thread.life.is_live() && thread.mask.has(signal)
+}
+
+pub(crate) fn some_blocks(threads: &[Thread], tgid: u32, signal: Signal) -> bool
+    ensures { result ≡ list_any (λ t. is_live t.life && has t.mask signal) (filter (in_group tgid) threads.now) }
+{
+    threads
+        .iter()
+        .filter(|t| t.group == tgid)
+        .any(|t| blocks(t, signal))
+}
+
+// Places in a group
+
+/// How many threads a group has.
+fn count_of(threads: &[Thread], tgid: u32) -> usize
+    ensures { result ≡ count_in tgid threads.now }
+{
+    let mut count = 0;
+    for thread in threads {
+        if thread.group == tgid {
+            count += 1;
+        }
+    }
+    count
+}
+
+/// Where in the list the thread at a place of its group stands.
+fn place_of(threads: &[Thread], tgid: u32, i: usize) -> usize
+    requires { i < count_in tgid threads.now }
+    ensures within { result < length threads.now }
+    ensures found { member tgid i threads.now ≡ slice_get threads.now result }
+    ensures put { (x : Thread) → put_member tgid i x threads.now ≡ slice_set threads.now result x }
+{
+    let mut left = i;
+    for place in 0..threads.len() {
+        if threads[place].group == tgid {
+            if left == 0 {
+                return place;
+            }
+            left -= 1;
+        }
+    }
+    unreachable!()
+}

@@ -1,0 +1,180 @@
+ghost use Rattle.std.specs.Prelude.{◌≡◌, ◌+◌, ◌≤◌, ◌++◌, ◌==◌, ◌∷◌, List, filter, length, map, not, vec_len, vec_capacity};
+ghost use Rattle.tr_model.specs.declared.fates.Fate.TheVariants.{Delivered, Flushed};
+ghost use Rattle.tr_model.specs.Moves.{ending_of, instance_in, without_instance};
+ghost use Rattle.tr_model.specs.Tables.{same_target};
+ghost use Rattle.tr_model.specs.declared.rows.Waiting.{Waiting};
+ghost use Rattle.tr_pending.specs.Waiting.{best_of, is_waiting, rather};
+ghost use Rattle.tr_table.specs.Changes.{flushes, is_flushed, queue_in};
+
+use crate::threads::owner_of;
+use tr_model::{Ending, Fate, Target, Waiting};
+use tr_pending::Instance;
+use tr_sigset::{SigSet, Signal};
+use tr_tracee::Thread;
+
+/// Which pending signals of a group are flushed.
+#[derive(Clone, Copy, Debug)]
+pub enum Flush {
+    /// The stop signals.
+    Stops,
+    /// SIGCONT.
+    Cont,
+    /// One signal.
+    One(Signal),
+}
+
+fn flushes(flush: &Flush, signal: Signal) -> bool
+    ensures { result ≡ flushes flush.now signal }
+{
+    match flush {
+        Flush::Stops => signal.is_stop(),
+        Flush::Cont => signal.number() == 18,
+        Flush::One(flushed) => signal.number() == flushed.number(),
+    }
+}
+
+fn is_flushed(threads: &[Thread], tgid: u32, flush: &Flush, waiting: &Waiting) -> bool
+    ensures { result ≡ is_flushed threads.now tgid flush.now waiting.now }
+{
+    flushes(flush, waiting.instance.sig) && owner_of(threads, waiting.target) == tgid
+}
+
+/// Appends what is flushed, in order of acceptance.
+pub(crate) fn log_flushed(
+    ended: &mut Vec<Ending>,
+    waiting: &[Waiting],
+    threads: &[Thread],
+    tgid: u32,
+    flush: &Flush,
+)
+    requires { vec_len ended.old + length waiting.now ≤ vec_capacity ended.old }
+    ensures items { ended.new.items ≡ ended.old.items ++ map (ending_of Flushed) (filter (is_flushed threads.now tgid flush.now) waiting.now) }
+    ensures len { vec_len ended.new ≡ vec_len ended.old + length (filter (is_flushed threads.now tgid flush.now) waiting.now) }
+    ensures capacity { vec_capacity ended.new ≡ vec_capacity ended.old }
+{
+    for w in waiting {
+        if is_flushed(threads, tgid, flush, w) {
+            ended.push_reserved(Ending {
+                number: w.instance.n,
+                fate: Fate::Flushed,
+            });
+        }
+    }
+}
+
+/// Drops what is flushed.
+pub(crate) fn drop_flushed(waiting: &mut Vec<Waiting>, threads: &[Thread], tgid: u32, flush: &Flush)
+    ensures items { waiting.new.items ≡ filter (λ q. not (is_flushed threads.now tgid flush.now q)) waiting.old.items }
+    ensures capacity { vec_capacity waiting.new ≡ vec_capacity waiting.old }
+    ensures len { vec_len waiting.new ≤ vec_len waiting.old }
+{
+    waiting.retain(|w| !is_flushed(threads, tgid, flush, w));
+}
+
+/// Appends the instance of this number, if it waits, as delivered.
+pub(crate) fn log_delivered(ended: &mut Vec<Ending>, waiting: &[Waiting], n: u64)
+    requires { vec_len ended.old + length waiting.now ≤ vec_capacity ended.old }
+    ensures items { ended.new.items ≡ ended.old.items ++ map (ending_of Delivered) (filter (λ q. q.instance.n == n) waiting.now) }
+    ensures len { vec_len ended.new ≡ vec_len ended.old + length (filter (λ q. q.instance.n == n) waiting.now) }
+    ensures capacity { vec_capacity ended.new ≡ vec_capacity ended.old }
+{
+    for w in waiting {
+        if w.instance.n == n {
+            ended.push_reserved(Ending {
+                number: n,
+                fate: Fate::Delivered,
+            });
+        }
+    }
+}
+
+/// Drops the instance of this number.
+pub(crate) fn drop_delivered(waiting: &mut Vec<Waiting>, n: u64)
+    ensures items { waiting.new.items ≡ filter (λ q. not (q.instance.n == n)) waiting.old.items }
+    ensures capacity { vec_capacity waiting.new ≡ vec_capacity waiting.old }
+    ensures len { vec_len waiting.new ≤ vec_len waiting.old }
+{
+    waiting.retain(|w| w.instance.n != n);
+}
+
+/// Takes the first instance of this number out.
+pub(crate) fn pull(waiting: &mut Vec<Waiting>, n: u64)
+    ensures items { waiting.new.items ≡ without_instance n waiting.old.items }
+    ensures capacity { vec_capacity waiting.new ≡ vec_capacity waiting.old }
+    ensures len { vec_len waiting.new ≤ vec_len waiting.old }
+{
+    for i in 0..waiting.len() {
+        if waiting[i].instance.n == n {
+            let _taken = waiting.remove(i);
+            return;
+        }
+    }
+}
+
+/// The instance of this number.
+pub(crate) fn find_instance(waiting: &[Waiting], n: u64) -> Option<Instance>
+    ensures { result ≡ instance_in waiting.now n }
+{
+    for w in waiting {
+        if w.instance.n == n {
+            return Some(w.instance);
+        }
+    }
+    None
+}
+
+fn same_target(a: Target, b: Target) -> bool
+    ensures { result ≡ same_target a b }
+{
+    match (a, b) {
+        (Target::Thread(a), Target::Thread(b)) => a == b,
+        (Target::Group(a), Target::Group(b)) => a == b,
+        _ => false,
+    }
+}
+
+/// Whether an instance of the signal waits for the target.
+pub(crate) fn is_waiting(waiting: &[Waiting], target: Target, signal: Signal) -> bool
+    ensures { result ≡ is_waiting signal (queue_in target waiting.now) }
+{
+    waiting
+        .iter()
+        .filter(|w| same_target(target, w.target))
+        .map(|w| w.instance)
+        .any(|i| i.sig == signal)
+}
+
+/// The first instance of the least signal number that isn't blocked, of those that wait for the target.
+pub(crate) fn best(waiting: &[Waiting], target: Target, blocked: SigSet) -> Option<Instance>
+    ensures { result ≡ best_of blocked (queue_in target waiting.now) }
+{
+    let mut best = None;
+    for i in 0..waiting.len() {
+        best = better(blocked, target, &waiting[waiting.len() - 1 - i], &best);
+    }
+    best
+}
+
+/// The best of this one and the best of those after it.
+fn better(
+    blocked: SigSet,
+    target: Target,
+    first: &Waiting,
+    best: &Option<Instance>,
+) -> Option<Instance>
+    ensures { (rest : List Waiting) → best.now ≡ best_of blocked (queue_in target rest) → result ≡ best_of blocked (queue_in target (first.now ∷ rest)) }
+{
+    if !same_target(target, first.target) || blocked.has(first.instance.sig) {
+        return *best;
+    }
+    Some(rather(&first.instance, best))
+}
+
+fn rather(instance: &Instance, other: &Option<Instance>) -> Instance
+    ensures { result ≡ rather instance.now other.now }
+{
+    match other {
+        Some(other) if other.sig.number() < instance.sig.number() => *other,
+        _ => *instance,
+    }
+}
