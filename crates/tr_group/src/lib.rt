@@ -5,5 +5,5 @@
 mod members;
 mod stops;
 
-pub use members::{Change, Members, begin_death, continue_all, initiate, note_cont};
+pub use members::{Change, Members, begin_death, continue_all, initiate, leave_all, note_cont};
 pub use stops::{Action, GroupStop};

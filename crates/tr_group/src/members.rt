@@ -111,6 +111,14 @@ pub fn begin_death<M: Members>(
     alter(members, tgid, &Change::Leave(kill, *end));
 }
 
+/// Each thread of the group that isn't dead begins to leave with this end, as when the group begins to die; told where
+/// `kill` says that KILL did it. What they hold is the caller's to tell first.
+pub fn leave_all<M: Members>(members: &mut M, tgid: u32, kill: bool, end: &End)
+    ensures { M.threads members.new ≡ map (throughout tgid (broken kill end.now)) (M.threads members.old) }
+{
+    alter(members, tgid, &Change::Leave(kill, *end));
+}
+
 /// Appends the numbers that the threads of a group hold.
 fn tell_held<M: Members>(members: &M, tgid: u32, gone: &mut Vec<u64>)
     requires { vec_len gone.old + length (held_in tgid (M.threads members.now)) ≤ vec_capacity gone.old }

@@ -1,2 +1,3 @@
 pub mod Found
+pub mod Helds
 pub mod MembersKept

@@ -1,3 +1,4 @@
 pub mod Starts
 pub mod View
 pub mod Changes
+pub mod Held

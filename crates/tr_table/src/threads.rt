@@ -1,20 +1,24 @@
-ghost use Rattle.std.specs.Prelude.{◌≡◌, ◌+◌, ◌<◌, ◌≤◌, ◌&&◌, Some, length, filter, map, option_copied, slice_get, slice_set};
+ghost use Rattle.std.specs.Prelude.{◌≡◌, ◌+◌, ◌<◌, ◌≤◌, ◌++◌, ◌&&◌, length, filter, flat_map, is_some, map, option_copied, slice_get, slice_set, vec_len, vec_capacity};
 ghost use Rattle.std.specs.List.{list_all, list_any};
 ghost use Rattle.tr_sigset.specs.Sets.{has};
 ghost use Rattle.tr_tracee.specs.Lives.{is_dead, is_live};
-ghost use Rattle.tr_tracee.specs.Threads.{in_group, is_traced, only};
+ghost use Rattle.tr_tracee.specs.Threads.{in_group, is_traced, only, throughout};
+ghost use Rattle.tr_tracee.specs.Ends.{broken};
+ghost use Rattle.tr_model.specs.declared.fates.Fate.TheVariants.{Flushed};
+ghost use Rattle.tr_table.specs.Held.{helds, one};
 ghost use Rattle.tr_tracee.specs.Stops.{entered_as};
 ghost use Rattle.tr_group.specs.Members.{count_in, member, put_member};
-ghost use Rattle.tr_model.specs.Moves.{changed};
+ghost use Rattle.tr_model.specs.Moves.{changed, endings, ends};
 ghost use Rattle.tr_model.specs.Tables.{owner_in, thread_in};
 ghost use Rattle.tr_table.specs.Changes.{own};
 
 use std::alloc::{AllocError, Global};
 use std::marker::Model;
 use tr_group::Members;
-use tr_model::Target;
+use tr_model::{Ending, Fate, Target};
+use tr_pending::Instance;
 use tr_sigset::{SigSet, Signal};
-use tr_tracee::{Stop, Thread};
+use tr_tracee::{End, Stop, Thread};
 
 /// The threads of a table, in table order.
 #[derive(Drop)]
@@ -125,6 +129,62 @@ fn enter_first(threads: &mut [Thread], id: u32, number: u64, stop: &Stop)
             threads[i] = entered(number, stop, &threads[i]);
             return;
         }
+    }
+}
+
+fn left(kill: bool, end: &End, thread: &Thread) -> Thread
+    ensures { result ≡ broken kill end.now thread.now }
+{
+    let mut changed = *thread;
+    changed.begin_to_leave(kill, end);
+    changed
+}
+
+fn left_in(tgid: u32, kill: bool, end: &End, thread: &Thread) -> Thread
+    ensures { result ≡ throughout tgid (broken kill end.now) thread.now }
+{
+    if thread.group == tgid {
+        left(kill, end, thread)
+    } else {
+        *thread
+    }
+}
+
+fn push_end(ended: &mut Vec<Ending>, before: &Option<Instance>, after: &Option<Instance>)
+    requires { vec_len ended.old + one (is_some before.now) ≤ vec_capacity ended.old }
+    ensures items { ended.new.items ≡ ended.old.items ++ endings Flushed before.now after.now }
+    ensures len { vec_len ended.new ≡ vec_len ended.old + length (endings Flushed before.now after.now) }
+    ensures capacity { vec_capacity ended.new ≡ vec_capacity ended.old }
+{
+    match (before, after) {
+        (Some(instance), None) => ended.push_reserved(Ending {
+            number: instance.n,
+            fate: Fate::Flushed,
+        }),
+        _ => {}
+    }
+}
+
+/// Appends what the threads of a group hold, and give up as they begin to leave.
+#[tactic(auto, using(crate::proofs::Helds::helds_drop, crate::proofs::Helds::few_endings))]
+pub(crate) fn log_leaving(
+    ended: &mut Vec<Ending>,
+    threads: &[Thread],
+    tgid: u32,
+    kill: bool,
+    end: &End,
+)
+    requires { vec_len ended.old + helds threads.now ≤ vec_capacity ended.old }
+    ensures items { ended.new.items ≡ ended.old.items ++ flat_map (ends Flushed (throughout tgid (broken kill end.now))) threads.now }
+    ensures len { vec_len ended.new ≡ vec_len ended.old + length (flat_map (ends Flushed (throughout tgid (broken kill end.now))) threads.now) }
+    ensures capacity { vec_capacity ended.new ≡ vec_capacity ended.old }
+{
+    for thread in threads {
+        push_end(
+            ended,
+            &thread.life.held(),
+            &left_in(tgid, kill, end, thread).life.held(),
+        );
     }
 }
 

@@ -1,0 +1,165 @@
+ghost use Rattle.std.specs.Prelude.{◌≡◌, ◌+◌, ◌<◌, ◌≤◌, ◌^◌, ◌++◌, ◌==◌, ◌∷◌, [], IsTrue, OnErr, OnOk, filter, flat_map, length, map, not, vec_len, vec_capacity};
+ghost use Rattle.tr_model.specs.declared.fates.Fate.TheVariants.{Delivered, Flushed};
+ghost use Rattle.tr_model.specs.declared.rows.Target.TheVariants as target;
+ghost use Rattle.tr_model.specs.Moves.{changed, ending_of, ends, group_changed, instance_in, only_group, with_note, without_instance};
+ghost use Rattle.tr_model.specs.Tables.{Table};
+ghost use Rattle.tr_model.specs.Tables.{action_of, all_dead, has_live, has_stop_mark, has_traced, members, owner, queue, stop_of, end_of, group_of, thread_of};
+ghost use Rattle.tr_pending.specs.Waiting.{best_of, is_waiting};
+ghost use Rattle.tr_tracee.specs.Ends.{broken};
+ghost use Rattle.tr_tracee.specs.Marks.{cont_noted, marked};
+ghost use Rattle.tr_tracee.specs.Stops.{entered_as};
+ghost use Rattle.tr_tracee.specs.Threads.{only, throughout};
+ghost use Rattle.tr_group.specs.Members.{continued_by};
+ghost use Rattle.tr_table.specs.Changes.{is_flushed, own, regrouped};
+ghost use Rattle.tr_table.specs.Held.{helds};
+
+use crate::groups::{GroupChange, change_groups, note_groups};
+use crate::table::Table;
+use crate::threads::{Own, log_leaving};
+use crate::waiting::{Flush, drop_delivered, drop_flushed, log_delivered, log_flushed, pull};
+use std::alloc::AllocError;
+use tr_group::{continue_all, initiate, leave_all, note_cont};
+use tr_model::{Ending, Target, Waiting};
+use tr_pending::{Info, Instance};
+use tr_sigset::Signal;
+use tr_tracee::{End, Stop};
+use tr_wait::Status;
+
+// What happens to a table, one list at a time. Only `reserve` takes memory.
+
+impl Table {
+    ghost use Rattle.tr_table.specs.View.{View};
+
+    /// Reserves places for this many more instances.
+    pub fn reserve(&mut self, more: usize) -> Result<(), AllocError>
+        ensures table { self.new.table ≡ self.old.table }
+        ensures ok { OnOk result (more ≤ self.new.room) }
+    {
+        self.waiting.reserve(more)
+    }
+
+    /// A group-stop begins for the threads of a group: they are marked.
+    pub fn mark_all(&mut self, tgid: u32)
+        ensures { self.new ≡ record self.old { table = record self.old.table { threads = map (throughout tgid marked) self.old.table.threads } } }
+    {
+        initiate(&mut self.threads, tgid);
+    }
+
+    /// A SIGCONT comes to the threads of a group; `in_effect` says whether a group-stop is in effect.
+    pub fn continue_threads(&mut self, tgid: u32, in_effect: bool)
+        ensures { self.new ≡ record self.old { table = record self.old.table { threads = map (throughout tgid (continued_by in_effect)) self.old.table.threads } } }
+    {
+        continue_all(&mut self.threads, tgid, in_effect);
+    }
+
+    /// Each signal-delivery-stop of a group notes that a SIGCONT came.
+    pub fn note_cont(&mut self, tgid: u32)
+        ensures { self.new ≡ record self.old { table = record self.old.table { threads = map (throughout tgid cont_noted) self.old.table.threads } } }
+    {
+        note_cont(&mut self.threads, tgid);
+    }
+
+    /// Each thread of a group that isn't dead begins to leave. What they held is flushed, and appended to `ended`.
+    pub fn leave(&mut self, tgid: u32, kill: bool, end: &End, ended: &mut Vec<Ending>)
+        requires { vec_len ended.old + helds self.old.table.threads ≤ vec_capacity ended.old }
+        ensures table { self.new ≡ record self.old { table = record self.old.table { threads = map (throughout tgid (broken kill end.now)) self.old.table.threads } } }
+        ensures ended { ended.new.items ≡ ended.old.items ++ flat_map (ends Flushed (throughout tgid (broken kill end.now))) self.old.table.threads }
+        ensures len { vec_len ended.new ≡ vec_len ended.old + length (flat_map (ends Flushed (throughout tgid (broken kill end.now))) self.old.table.threads) }
+        ensures capacity { vec_capacity ended.new ≡ vec_capacity ended.old }
+    {
+        log_leaving(ended, self.threads.as_slice(), tgid, kill, end);
+        leave_all(&mut self.threads, tgid, kill, end);
+    }
+
+    /// What happens to the record of a thread.
+    pub fn change_thread(&mut self, id: u32, change: &Own)
+        ensures { self.new ≡ record self.old { table = record self.old.table { threads = map (only id (own change.now)) self.old.table.threads } } }
+    {
+        self.threads.change(id, change);
+    }
+
+    /// A thread enters a ptrace-stop with the next report.
+    pub fn enter(&mut self, id: u32, stop: &Stop)
+        requires { self.old.table.raised + 1 < 2 ^ 64 }
+        ensures { self.new ≡ record self.old { table = record self.old.table { threads = changed id (entered_as (self.old.table.raised + 1) stop.now) self.old.table.threads; raised = self.old.table.raised + 1 } } }
+    {
+        self.raised += 1;
+        self.threads.enter(id, self.raised, stop);
+    }
+
+    /// What happens to the record of a group.
+    pub fn change_group(&mut self, tgid: u32, change: &GroupChange)
+        ensures { self.new ≡ record self.old { table = record self.old.table { groups = map (only_group tgid (regrouped change.now)) self.old.table.groups } } }
+    {
+        change_groups(&mut self.groups, tgid, change);
+    }
+
+    /// A note of a group for the starter, with the next report.
+    pub fn note(&mut self, tgid: u32, status: &Status)
+        requires { self.old.table.raised + 1 < 2 ^ 64 }
+        ensures { self.new ≡ record self.old { table = record self.old.table { groups = group_changed tgid (with_note (self.old.table.raised + 1) status.now) self.old.table.groups; raised = self.old.table.raised + 1 } } }
+    {
+        self.raised += 1;
+        note_groups(&mut self.groups, tgid, self.raised, status);
+    }
+
+    /// Accepts a signal that doesn't wait, and gives its number.
+    pub fn accept(&mut self) -> u64
+        requires { self.old.table.accepted + 1 < 2 ^ 64 }
+        ensures number { result ≡ self.old.table.accepted + 1 }
+        ensures table { self.new ≡ record self.old { table = record self.old.table { accepted = self.old.table.accepted + 1 } } }
+    {
+        self.accepted += 1;
+        self.accepted
+    }
+
+    /// Accepts a signal that waits for a target.
+    pub fn enqueue(&mut self, signal: Signal, info: &Info, target: Target)
+        requires number { self.old.table.accepted + 1 < 2 ^ 64 }
+        requires room { 0 < self.old.room }
+        ensures table { self.new.table ≡ record self.old.table { waiting = self.old.table.waiting ++ record { instance = record { n = self.old.table.accepted + 1; sig = signal; info = info.now }; target = target } ∷ []; accepted = self.old.table.accepted + 1 } }
+        ensures room { self.old.room ≤ self.new.room + 1 }
+    {
+        self.accepted += 1;
+        let instance = Instance {
+            n: self.accepted,
+            sig: signal,
+            info: *info,
+        };
+        self.waiting.push_reserved(Waiting { instance, target });
+    }
+
+    /// Flushes pending signals of a group, and appends them to `ended`.
+    pub fn flush(&mut self, tgid: u32, flush: &Flush, ended: &mut Vec<Ending>)
+        requires { vec_len ended.old + length self.old.table.waiting ≤ vec_capacity ended.old }
+        ensures table { self.new.table ≡ record self.old.table { waiting = filter (λ q. not (is_flushed self.old.table.threads tgid flush.now q)) self.old.table.waiting } }
+        ensures room { self.old.room ≤ self.new.room }
+        ensures ended { ended.new.items ≡ ended.old.items ++ map (ending_of Flushed) (filter (is_flushed self.old.table.threads tgid flush.now) self.old.table.waiting) }
+        ensures len { vec_len ended.new ≡ vec_len ended.old + length (filter (is_flushed self.old.table.threads tgid flush.now) self.old.table.waiting) }
+        ensures capacity { vec_capacity ended.new ≡ vec_capacity ended.old }
+    {
+        log_flushed(ended, &self.waiting, self.threads.as_slice(), tgid, flush);
+        drop_flushed(&mut self.waiting, self.threads.as_slice(), tgid, flush);
+    }
+
+    /// Delivers the pending instance of a number, and appends it to `ended`.
+    pub fn deliver(&mut self, n: u64, ended: &mut Vec<Ending>)
+        requires { vec_len ended.old + length self.old.table.waiting ≤ vec_capacity ended.old }
+        ensures table { self.new.table ≡ record self.old.table { waiting = filter (λ q. not (q.instance.n == n)) self.old.table.waiting } }
+        ensures room { self.old.room ≤ self.new.room }
+        ensures ended { ended.new.items ≡ ended.old.items ++ map (ending_of Delivered) (filter (λ q. q.instance.n == n) self.old.table.waiting) }
+        ensures len { vec_len ended.new ≡ vec_len ended.old + length (filter (λ q. q.instance.n == n) self.old.table.waiting) }
+        ensures capacity { vec_capacity ended.new ≡ vec_capacity ended.old }
+    {
+        log_delivered(ended, &self.waiting, n);
+        drop_delivered(&mut self.waiting, n);
+    }
+
+    /// Takes the pending instance of a number out, for a signal-delivery-stop to hold.
+    pub fn pull(&mut self, n: u64)
+        ensures table { self.new.table ≡ record self.old.table { waiting = without_instance n self.old.table.waiting } }
+        ensures room { self.old.room ≤ self.new.room }
+    {
+        pull(&mut self.waiting, n);
+    }
+}
