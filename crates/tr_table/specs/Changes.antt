@@ -8,7 +8,7 @@ use Rattle.tr_model.specs.declared.rows.Target.{Target}
 use Rattle.tr_model.specs.declared.rows.Waiting.{Waiting}
 use Rattle.tr_model.specs.Deaths.{dying_with}
 use Rattle.tr_model.specs.GroupStops.{beginning, ended_stop, full}
-use Rattle.tr_model.specs.Tables.{owner_in, same_target}
+use Rattle.tr_model.specs.Tables.{Table, owner_in, same_target}
 use Rattle.tr_sigset.specs.Signals.{is_stop}
 use Rattle.tr_table.specs.declared.waiting.Flush.{Flush}
 use Rattle.tr_table.specs.declared.waiting.Flush.TheVariants as flush
@@ -39,3 +39,7 @@ flushes (flush.One t) s = s == t
 
 abbrev pub is_flushed : List Thread → ℕ → Flush → Waiting → Bool
 is_flushed ts g f q = flushes f q.instance.sig && owner_in ts q.target == g
+
+-- the ids of the groups, in table order
+abbrev pub tgids : Table → List ℕ
+tgids T = map (λ x. x.tgid) T.groups

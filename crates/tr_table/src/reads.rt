@@ -1,0 +1,135 @@
+ghost use Rattle.std.specs.Prelude.{◌≡◌, ◌<◌, ◌&&◌, length, map, slice_index};
+ghost use Rattle.std.specs.List.{list_any};
+ghost use Rattle.tr_sigset.specs.Sets.{has};
+ghost use Rattle.tr_tracee.specs.Lives.{is_live};
+ghost use Rattle.tr_pending.specs.Waiting.{best_of, is_waiting};
+ghost use Rattle.tr_model.specs.Moves.{instance_in};
+ghost use Rattle.tr_model.specs.Tables.{action_of, all_dead, end_of, group_of, has_live, has_stop_mark, has_traced, members, owner, queue, stop_of};
+ghost use Rattle.tr_table.specs.Changes.{tgids};
+
+use crate::groups::{action_in, end_in, stop_in};
+use crate::table::Table;
+use crate::threads::{all_dead, has_live, has_stop_mark, has_traced, owner_of, some_blocks};
+use crate::waiting::{best, find_instance, is_waiting};
+use tr_group::{Action, GroupStop};
+use tr_model::Target;
+use tr_pending::Instance;
+use tr_sigset::{SigSet, Signal};
+use tr_tracee::End;
+
+// What is read off a table. No call here takes memory.
+
+impl Table {
+    /// The group that a target belongs to, 0 for the target of no thread.
+    pub fn owner(&self, target: Target) -> u32
+        ensures { result ≡ owner self.now.table target }
+    {
+        owner_of(self.threads.as_slice(), target)
+    }
+
+    /// Whether somebody traces a thread of the group.
+    pub fn has_traced(&self, tgid: u32) -> bool
+        ensures { result ≡ has_traced self.now.table tgid }
+    {
+        has_traced(self.threads.as_slice(), tgid)
+    }
+
+    /// Whether each thread of the group is dead.
+    pub fn all_dead(&self, tgid: u32) -> bool
+        ensures { result ≡ all_dead self.now.table tgid }
+    {
+        all_dead(self.threads.as_slice(), tgid)
+    }
+
+    /// Whether some thread of the group is live.
+    pub fn has_live(&self, tgid: u32) -> bool
+        ensures { result ≡ has_live self.now.table tgid }
+    {
+        has_live(self.threads.as_slice(), tgid)
+    }
+
+    /// Whether some thread of the group has a stop mark.
+    pub fn has_stop_mark(&self, tgid: u32) -> bool
+        ensures { result ≡ has_stop_mark self.now.table tgid }
+    {
+        has_stop_mark(self.threads.as_slice(), tgid)
+    }
+
+    /// Whether some live thread of the group blocks the signal.
+    pub fn some_blocks(&self, tgid: u32, signal: Signal) -> bool
+        ensures { result ≡ list_any (λ t. is_live t.life && has t.mask signal) (members self.now.table tgid) }
+    {
+        some_blocks(self.threads.as_slice(), tgid, signal)
+    }
+
+    /// The group-stop of a group, `No` for a group that isn't there.
+    pub fn stop_of(&self, tgid: u32) -> GroupStop
+        ensures { result ≡ stop_of (group_of self.now.table tgid) }
+    {
+        stop_in(&self.groups, tgid)
+    }
+
+    /// How a dying group ends.
+    pub fn end_of(&self, tgid: u32) -> Option<End>
+        ensures { result ≡ end_of (group_of self.now.table tgid) }
+    {
+        end_in(&self.groups, tgid)
+    }
+
+    /// A group's action of a signal, `Default` for a group that isn't there.
+    pub fn action_of(&self, tgid: u32, signal: Signal) -> Action
+        ensures { result ≡ action_of self.now.table tgid signal }
+    {
+        action_in(&self.groups, tgid, signal)
+    }
+
+    /// How many instances wait in all queues.
+    pub fn queued(&self) -> usize
+        ensures { result ≡ length self.now.table.waiting }
+    {
+        self.waiting.len()
+    }
+
+    /// Whether an instance of the signal waits for the target.
+    pub fn is_waiting(&self, target: Target, signal: Signal) -> bool
+        ensures { result ≡ is_waiting signal (queue self.now.table target) }
+    {
+        is_waiting(&self.waiting, target, signal)
+    }
+
+    /// The first instance of the least signal number that isn't blocked, of those that wait for the target.
+    pub fn best(&self, target: Target, blocked: SigSet) -> Option<Instance>
+        ensures { result ≡ best_of blocked (queue self.now.table target) }
+    {
+        best(&self.waiting, target, blocked)
+    }
+
+    /// The pending instance of a number.
+    pub fn instance(&self, n: u64) -> Option<Instance>
+        ensures { result ≡ instance_in self.now.table.waiting n }
+    {
+        find_instance(&self.waiting, n)
+    }
+
+    /// How many groups there are.
+    pub fn group_count(&self) -> usize
+        ensures { result ≡ length (tgids self.now.table) }
+    {
+        self.groups.len()
+    }
+
+    /// The id of the group at a place, from 0.
+    pub fn tgid_at(&self, i: usize) -> u32
+        requires { i < length (tgids self.now.table) }
+        ensures { result ≡ slice_index (tgids self.now.table) i }
+    {
+        self.groups[i].tgid
+    }
+
+    /// How many threads there are.
+    pub fn thread_count(&self) -> usize
+        ensures { result ≡ length self.now.table.threads }
+    {
+        self.threads.as_slice().len()
+    }
+}
