@@ -1,0 +1,144 @@
+-- How many threads hold an instance after a move, and the ids of the groups after one.
+use Rattle.std.proofs.Common.{◌≡◌, ℕ, zero, suc, ◌+◌, ◌<◌, ◌≤◌, List, [], ◌∷◌, ◌++◌, length, drop, take, get_or, Option, Some, None, Bool, true, false, is_some, if◌then◌else◌, ◌==◌, map, flat_map, filter, not, refl, ap, sym, ◌∙◌, arith, length-append}
+use Rattle.std.proofs.lemmas.List.{take_more}
+use Rattle.tr_pending.specs.declared.instance.Instance.{Instance}
+use Rattle.tr_wait.specs.declared.status.Status.{Status}
+use Rattle.tr_tracee.specs.declared.life.End.{End}
+use Rattle.tr_tracee.specs.declared.life.Life.{Life}
+use Rattle.tr_tracee.specs.declared.life.Life.TheVariants as life
+use Rattle.tr_tracee.specs.declared.life.Stop.TheVariants as stop
+use Rattle.tr_tracee.specs.declared.thread.Thread.{Thread}
+use Rattle.tr_tracee.specs.Ends.{broken}
+use Rattle.tr_tracee.specs.Lives.{held}
+use Rattle.tr_tracee.specs.Marks.{cont_noted, cont_noted_life, continued, continued_life, marked, noted}
+use Rattle.tr_tracee.specs.Threads.{throughout}
+use Rattle.tr_group.specs.Members.{continued_by}
+use Rattle.tr_model.specs.declared.fates.Fate.{Fate}
+use Rattle.tr_model.specs.declared.rows.Group.{Group}
+use Rattle.tr_model.specs.Moves.{Work, each, ends, endings, group_changed, only_group, with_note}
+use Rattle.tr_table.specs.declared.groups.GroupChange.{GroupChange}
+use Rattle.tr_table.specs.declared.groups.GroupChange.TheVariants as group
+use Rattle.tr_table.specs.Changes.{regrouped}
+use Rattle.tr_table.specs.Held.{helds, one}
+use Rattle.tr_table.specs.View.{View}
+use Rattle.tr_signals.specs.declared.log.Log.{Log}
+use Rattle.tr_signals.specs.Shows.{Room}
+
+-- a change that holds what was held
+
+pub helds_same : (g : ℕ) (f : Thread → Thread) → ((t : Thread) → is_some (held (f t).life) ≡ is_some (held t.life)) → (ts : List Thread) → helds (map (throughout g f) ts) ≡ helds ts
+helds_same g f h [] = refl
+helds_same g f h (t ∷ ts) = go (t.group == g) (helds_same g f h ts)
+  where
+    go : (b : Bool) → helds (map (throughout g f) ts) ≡ helds ts → one (is_some (held (if b then f t else t).life)) + helds (map (throughout g f) ts) ≡ one (is_some (held t.life)) + helds ts
+    go true ih = rw (h t, ih) refl
+    go false ih = rw ih refl
+
+held_continued : (l : Life) → is_some (held (continued_life l)) ≡ is_some (held l)
+held_continued life.Stopped = refl
+held_continued _ = refl
+
+held_cont_noted : (l : Life) → is_some (held (cont_noted_life l)) ≡ is_some (held l)
+held_cont_noted (life.InStop (stop.Signal i came)) = refl
+held_cont_noted (life.InStop _) = refl
+held_cont_noted _ = refl
+
+held_continued_by : (b : Bool) (t : Thread) → is_some (held (continued_by b t).life) ≡ is_some (held t.life)
+held_continued_by true t = held_continued t.life
+held_continued_by false t = refl
+
+pub helds_marked : (g : ℕ) (ts : List Thread) → helds (map (throughout g marked) ts) ≡ helds ts
+helds_marked g ts = helds_same g marked (λ t. refl) ts
+
+pub helds_cont_noted : (g : ℕ) (ts : List Thread) → helds (map (throughout g cont_noted) ts) ≡ helds ts
+helds_cont_noted g ts = helds_same g cont_noted (λ t. held_cont_noted t.life) ts
+
+pub helds_continued : (g : ℕ) (b : Bool) (ts : List Thread) → helds (map (throughout g (continued_by b)) ts) ≡ helds ts
+helds_continued g b ts = helds_same g (continued_by b) (held_continued_by b) ts
+
+-- a change that gives no thread an instance
+pub record Gives (f : Thread → Thread) : Type 0 where
+  pub none : (t : Thread) → held t.life ≡ None → held (f t).life ≡ None
+
+held_left : (fate : Fate) (a b : Option Instance) → (a ≡ None → b ≡ None) → length (endings fate a b) + one (is_some b) ≡ one (is_some a)
+held_left fate None None h = refl
+held_left fate None (Some j) h = let e = h refl in absurd cc
+held_left fate (Some i) None h = refl
+held_left fate (Some i) (Some j) h = refl
+
+pub helds_left : (fate : Fate) (f : Thread → Thread) → Gives f → (ts : List Thread) → length (flat_map (ends fate f) ts) + helds (map f ts) ≡ helds ts
+helds_left fate f h [] = refl
+helds_left fate f h (t ∷ ts) = rw (length-append (ends fate f t) (flat_map (ends fate f) ts)) (omega (arith, held_left fate (held t.life) (held (f t).life) (h.none t), helds_left fate f h ts))
+
+held_broken : (kill : Bool) (e : End) (t : Thread) → held (broken kill e t).life ≡ None
+held_broken kill e t = go t.life refl
+  where
+    go : (l : Life) → t.life ≡ l → held (broken kill e t).life ≡ None
+    go (life.Dead d) q = simp q refl
+    go _ q = simp q refl
+
+pub broken_gives : (g : ℕ) (kill : Bool) (e : End) → Gives (throughout g (broken kill e))
+broken_gives g kill e = record { none = λ t h. go t h (t.group == g) }
+  where
+    go : (t : Thread) → held t.life ≡ None → (b : Bool) → held (if b then broken kill e t else t).life ≡ None
+    go t h true = held_broken kill e t
+    go t h false = h
+
+pub helds_few : (ts : List Thread) → helds ts ≤ length ts
+helds_few [] = omega arith
+helds_few (t ∷ ts) = go (is_some (held t.life)) (helds_few ts)
+  where
+    go : (b : Bool) → helds ts ≤ length ts → one b + helds ts ≤ suc (length ts)
+    go true h = omega (arith, h)
+    go false h = omega (arith, h)
+
+pub room_less : (t : View) (l : Log) (n : ℕ) → Room t l (n + 1) → Room t l n
+room_less t l n o =
+    record {
+      ended = let x = o.ended in omega arith;
+      dying = let x = o.dying in omega arith;
+      killed = let x = o.killed in omega arith;
+      waiting = let x = o.waiting in omega arith;
+      accepted = let x = o.accepted in omega arith;
+      raised = let x = o.raised in omega arith;
+    }
+
+pub filter_halves : {A : Type 0} (p : A → Bool) (xs : List A) → length (filter p xs) + length (filter (λ x. not (p x)) xs) ≡ length xs
+filter_halves p [] = refl
+filter_halves p (x ∷ xs) = go (p x) (filter_halves p xs)
+  where
+    go : (b : Bool) → length (filter p xs) + length (filter (λ y. not (p y)) xs) ≡ length xs
+      → length (if b then x ∷ filter p xs else filter p xs) + length (if not b then x ∷ filter (λ y. not (p y)) xs else filter (λ y. not (p y)) xs) ≡ suc (length xs)
+    go true ih = omega (arith, ih)
+    go false ih = omega (arith, ih)
+
+-- the ids of the groups stay
+
+regrouped_tgid : (c : GroupChange) (x : Group) → (regrouped c x).tgid ≡ x.tgid
+regrouped_tgid (group.Begin s) x = refl
+regrouped_tgid group.EndStop x = refl
+regrouped_tgid group.Complete x = refl
+regrouped_tgid (group.Die e) x = refl
+
+pub regrouped_tgids : (g : ℕ) (c : GroupChange) (xs : List Group) → map (λ x. x.tgid) (map (only_group g (regrouped c)) xs) ≡ map (λ x. x.tgid) xs
+regrouped_tgids g c [] = refl
+regrouped_tgids g c (x ∷ xs) = go (x.tgid == g) (regrouped_tgids g c xs)
+  where
+    go : (b : Bool) → map (λ y. y.tgid) (map (only_group g (regrouped c)) xs) ≡ map (λ y. y.tgid) xs → (if b then regrouped c x else x).tgid ∷ map (λ y. y.tgid) (map (only_group g (regrouped c)) xs) ≡ x.tgid ∷ map (λ y. y.tgid) xs
+    go true ih = rw (regrouped_tgid c x, ih) refl
+    go false ih = rw ih refl
+
+pub noted_tgids : (g n : ℕ) (s : Status) (xs : List Group) → map (λ x. x.tgid) (group_changed g (with_note n s) xs) ≡ map (λ x. x.tgid) xs
+noted_tgids g n s [] = refl
+noted_tgids g n s (x ∷ xs) = go (x.tgid == g) (noted_tgids g n s xs)
+  where
+    go : (b : Bool) → map (λ y. y.tgid) (group_changed g (with_note n s) xs) ≡ map (λ y. y.tgid) xs → map (λ y. y.tgid) (if b then with_note n s x ∷ xs else x ∷ group_changed g (with_note n s) xs) ≡ x.tgid ∷ map (λ y. y.tgid) xs
+    go true ih = refl
+    go false ih = rw ih refl
+
+each-append : (xs ys : List ℕ) (move : ℕ → Work → Work) (w : Work) → each (xs ++ ys) move w ≡ each ys move (each xs move w)
+each-append [] ys move w = refl
+each-append (x ∷ xs) ys move w = each-append xs ys move (move x w)
+
+pub each_more : (xs : List ℕ) (i : ℕ) (move : ℕ → Work → Work) (w : Work) → i < length xs → each (take (i + 1) xs) move w ≡ move (get_or xs i 0) (each (take i xs) move w)
+each_more xs i move w h = ap (λ ys. each ys move w) (take_more xs i 0 h) ∙ each-append (take i xs) (get_or xs i 0 ∷ []) move w

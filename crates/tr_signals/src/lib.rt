@@ -1,0 +1,11 @@
+//! Sends, takes and masks: for each event a check, which takes no memory, and the change that makes what is due.
+#![tactic(auto)]
+
+
+mod log;
+mod moves;
+
+
+
+
+pub use log::{Log, Made};

@@ -1,0 +1,122 @@
+ghost use Rattle.std.specs.Prelude.{◌≡◌, ◌+◌, ◌≤◌, ◌<◌, ℕ};
+ghost use Rattle.tr_model.specs.declared.fates.Fate.TheVariants.{Flushed};
+ghost use Rattle.tr_model.specs.Moves.{Work, accept_as, alter, become, enqueue, note, only_group, regroup, tell_dying, tell_killed};
+ghost use Rattle.tr_model.specs.Sends.{flush_in};
+ghost use Rattle.tr_tracee.specs.Ends.{broken};
+ghost use Rattle.tr_tracee.specs.Marks.{cont_noted, marked};
+ghost use Rattle.tr_tracee.specs.Threads.{throughout};
+ghost use Rattle.tr_group.specs.Members.{continued_by};
+ghost use Rattle.tr_table.specs.Changes.{flushes, regrouped, tgids};
+ghost use Rattle.tr_signals.specs.Shows.{Room, Shows};
+ghost use Rattle.tr_signals.specs.declared.log.Log.{Log};
+
+use tr_model::{Ending, Fate, Target};
+use tr_pending::Info;
+use tr_sigset::Signal;
+use tr_table::{Flush, GroupChange, Table};
+use tr_tracee::End;
+use tr_wait::Status;
+
+use crate::log::Log;
+
+// The small moves of a step: each makes of table and log what the model's move makes of the step under way. None takes
+// memory.
+
+#[tactic(auto, using(crate::proofs::Rooms::helds_marked))]
+pub(crate) fn mark_all(table: &mut Table, tgid: u32)
+    ensures shows { (l : Log) (w : Work) → Shows table.old l w → Shows table.new l (alter (throughout tgid marked) w) }
+    ensures room { (l : Log) (n : ℕ) → Room table.old l n → Room table.new l n }
+    ensures tgids { tgids table.new.table ≡ tgids table.old.table }
+{
+    table.mark_all(tgid);
+}
+
+#[tactic(auto, using(crate::proofs::Rooms::helds_cont_noted))]
+pub(crate) fn note_cont(table: &mut Table, tgid: u32)
+    ensures shows { (l : Log) (w : Work) → Shows table.old l w → Shows table.new l (alter (throughout tgid cont_noted) w) }
+    ensures room { (l : Log) (n : ℕ) → Room table.old l n → Room table.new l n }
+    ensures tgids { tgids table.new.table ≡ tgids table.old.table }
+{
+    table.note_cont(tgid);
+}
+
+#[tactic(auto, using(crate::proofs::Rooms::helds_continued))]
+pub(crate) fn continue_threads(table: &mut Table, tgid: u32, in_effect: bool)
+    ensures shows { (l : Log) (w : Work) → Shows table.old l w → Shows table.new l (alter (throughout tgid (continued_by in_effect)) w) }
+    ensures room { (l : Log) (n : ℕ) → Room table.old l n → Room table.new l n }
+    ensures tgids { tgids table.new.table ≡ tgids table.old.table }
+{
+    table.continue_threads(tgid, in_effect);
+}
+
+#[tactic(auto, using(crate::proofs::Rooms::regrouped_tgids))]
+pub(crate) fn change_group(table: &mut Table, tgid: u32, change: &GroupChange)
+    ensures shows { (l : Log) (w : Work) → Shows table.old l w → Shows table.new l (regroup (only_group tgid (regrouped change.now)) w) }
+    ensures room { (l : Log) (n : ℕ) → Room table.old l n → Room table.new l n }
+    ensures tgids { tgids table.new.table ≡ tgids table.old.table }
+{
+    table.change_group(tgid, change);
+}
+
+#[tactic(auto, using(crate::proofs::Rooms::noted_tgids))]
+pub(crate) fn note(table: &mut Table, log: &Log, tgid: u32, status: &Status)
+    requires { Room table.old log.now 1 }
+    ensures shows { (l : Log) (w : Work) → Shows table.old l w → Shows table.new l (note tgid status.now w) }
+    ensures room { (l : Log) (n : ℕ) → Room table.old l (n + 1) → Room table.new l n }
+    ensures tgids { tgids table.new.table ≡ tgids table.old.table }
+{
+    table.note(tgid, status);
+}
+
+pub(crate) fn accept_as(table: &mut Table, log: &mut Log, fate: Fate)
+    requires { Room table.old log.old 1 }
+    ensures shows { (w : Work) → Shows table.old log.old w → Shows table.new log.new (accept_as fate w) }
+    ensures room { (n : ℕ) → Room table.old log.old (n + 1) → Room table.new log.new n }
+    ensures tgids { tgids table.new.table ≡ tgids table.old.table }
+{
+    let number = table.accept();
+    log.ended.push_reserved(Ending { number, fate });
+}
+
+pub(crate) fn enqueue(table: &mut Table, log: &Log, signal: Signal, info: &Info, target: Target)
+    requires { Room table.old log.now 1 }
+    ensures shows { (l : Log) (w : Work) → Shows table.old l w → Shows table.new l (enqueue signal info.now target w) }
+    ensures room { (l : Log) (n : ℕ) → Room table.old l (n + 1) → Room table.new l n }
+    ensures tgids { tgids table.new.table ≡ tgids table.old.table }
+{
+    table.enqueue(signal, info, target);
+}
+
+pub(crate) fn flush(table: &mut Table, log: &mut Log, tgid: u32, flush: &Flush)
+    requires { Room table.old log.old 0 }
+    ensures shows { (w : Work) → Shows table.old log.old w → Shows table.new log.new (flush_in tgid (flushes flush.now) w) }
+    ensures room { (n : ℕ) → Room table.old log.old n → Room table.new log.new n }
+    ensures tgids { tgids table.new.table ≡ tgids table.old.table }
+{
+    table.flush(tgid, flush, &mut log.ended);
+}
+
+pub(crate) fn leave(table: &mut Table, log: &mut Log, tgid: u32, kill: bool, end: &End)
+    requires { Room table.old log.old 0 }
+    ensures shows { (w : Work) → Shows table.old log.old w → Shows table.new log.new (become Flushed (throughout tgid (broken kill end.now)) w) }
+    ensures room { (n : ℕ) → Room table.old log.old n → Room table.new log.new n }
+    ensures tgids { tgids table.new.table ≡ tgids table.old.table }
+{
+    table.leave(tgid, kill, end, &mut log.ended);
+}
+
+pub(crate) fn tell_dying(table: &Table, log: &mut Log, tgid: u32)
+    requires { Room table.now log.old 1 }
+    ensures shows { (w : Work) → Shows table.now log.old w → Shows table.now log.new (tell_dying tgid w) }
+    ensures room { (n : ℕ) → Room table.now log.old (n + 1) → Room table.now log.new n }
+{
+    log.dying.push_reserved(tgid);
+}
+
+pub(crate) fn tell_killed(table: &Table, log: &mut Log, tgid: u32)
+    requires { Room table.now log.old 1 }
+    ensures shows { (w : Work) → Shows table.now log.old w → Shows table.now log.new (tell_killed tgid w) }
+    ensures room { (n : ℕ) → Room table.now log.old (n + 1) → Room table.now log.new n }
+{
+    log.killed.push_reserved(tgid);
+}
