@@ -1,11 +1,8 @@
 //! Sends, takes and masks: for each event a check, which takes no memory, and the change that makes what is due.
 #![tactic(auto)]
 
-
 mod log;
 mod moves;
-
-
-
+mod stops;
 
 pub use log::{Log, Made};
