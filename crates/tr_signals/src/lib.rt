@@ -3,6 +3,7 @@
 
 mod log;
 mod moves;
+mod sends;
 mod stops;
 
 pub use log::{Log, Made};
