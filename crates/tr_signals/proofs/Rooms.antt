@@ -1,6 +1,8 @@
 -- How many threads hold an instance after a move, and the ids of the groups after one.
-use Rattle.std.proofs.Common.{◌≡◌, ℕ, zero, suc, ◌+◌, ◌<◌, ◌≤◌, List, [], ◌∷◌, ◌++◌, length, drop, take, get_or, Option, Some, None, Bool, true, false, is_some, if◌then◌else◌, ◌==◌, map, flat_map, filter, not, refl, ap, sym, ◌∙◌, arith, length-append}
+use Rattle.std.proofs.Common.{◌≡◌, ℕ, zero, suc, ◌+◌, ◌<◌, ◌≤◌, List, [], ◌∷◌, ◌++◌, length, drop, take, get_or, Option, Some, None, Bool, true, false, is_some, if◌then◌else◌, ◌==◌, map, flat_map, filter, not, refl, ap, sym, ◌∙◌, arith, length-append, unwrap_or}
 use Rattle.std.proofs.lemmas.List.{take_more}
+use Rattle.std.specs.Option.{SomeIff}
+use Rattle.tr_sigset.specs.Signals.{IsSignal}
 use Rattle.tr_pending.specs.declared.instance.Instance.{Instance}
 use Rattle.tr_wait.specs.declared.status.Status.{Status}
 use Rattle.tr_tracee.specs.declared.life.End.{End}
@@ -142,3 +144,11 @@ each-append (x ∷ xs) ys move w = each-append xs ys move (move x w)
 
 pub each_more : (xs : List ℕ) (i : ℕ) (move : ℕ → Work → Work) (w : Work) → i < length xs → each (take (i + 1) xs) move w ≡ move (get_or xs i 0) (each (take i xs) move w)
 each_more xs i move w h = ap (λ ys. each ys move w) (take_more xs i 0 h) ∙ each-append (take i xs) (get_or xs i 0 ∷ []) move w
+
+-- a signal made of a number is that number
+pub signal_is : (o : Option ℕ) (n x : ℕ) → SomeIff o (IsSignal n) n → o ≡ Some x → x ≡ n
+signal_is (Some y) n x s e = let (p, q) = s in some_inj (sym e ∙ ap Some q)
+  where
+    some_inj : {a b : ℕ} → Some a ≡ Some b → a ≡ b
+    some_inj e = ap (λ o. unwrap_or o 0) e
+signal_is None n x s e = absurd cc

@@ -1,3 +1,4 @@
 pub mod Shows
 pub mod Did
 pub mod Targets
+pub mod Kills

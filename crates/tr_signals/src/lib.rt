@@ -1,9 +1,11 @@
 //! Sends, takes and masks: for each event a check, which takes no memory, and the change that makes what is due.
 #![tactic(auto)]
 
+mod kills;
 mod log;
 mod moves;
 mod sends;
 mod stops;
 
+pub use kills::{check_kill, kill};
 pub use log::{Log, Made};
