@@ -1,8 +1,8 @@
 -- What this product takes is one of the instances that the model lets a thread take.
-use Rattle.std.proofs.Common.{◌≡◌, ◌∙◌, ◌≤◌, ◌<◌, ◌==◌, List, [], ◌∷◌, ◌++◌, Bool, true, false, not, nat_le, Option, Some, None, if◌then◌else◌, cond, refl, sym, ap, subst, inl, inr, arith}
-use Rattle.std.specs.Prelude.{filter, is_some}
+use Rattle.std.proofs.Common.{◌≡◌, ◌∙◌, ◌⊎◌, ◌&&◌, ℕ, ◌≤◌, ◌<◌, ◌==◌, List, [], ◌∷◌, ◌++◌, Bool, true, false, not, nat_le, Option, Some, None, if◌then◌else◌, cond, refl, sym, ap, subst, inl, inr, arith}
+use Rattle.std.specs.Prelude.{filter, is_some, map}
 use Rattle.std.specs.List.{list_all}
-use Rattle.std.proofs.lemmas.Bool.{and_from, eq-eqb, leb-false, leb-true, true≢false}
+use Rattle.std.proofs.lemmas.Bool.{and_from, cases_lt, eq-eqb, eqb-false, eqb-true, leb-false, leb-true, true≢false}
 use Rattle.std.proofs.lemmas.Bool.Decides.{nat_tests}
 use Rattle.tr_sigset.specs.Sets.{has}
 use Rattle.tr_sigset.specs.declared.sets.SigSet.{SigSet}
@@ -14,10 +14,11 @@ use Rattle.tr_model.specs.declared.rows.Target.{Target}
 use Rattle.tr_model.specs.declared.rows.Target.TheVariants as target
 use Rattle.tr_model.specs.declared.rows.Waiting.{Waiting}
 use Rattle.tr_model.specs.Journals.{IsSorted}
+use Rattle.tr_model.specs.Moves.{instance_in}
 use Rattle.tr_model.specs.Preferred.{best_for, or_other}
 use Rattle.tr_model.specs.Tables.{Table, queue, same_target}
 use Rattle.tr_model.specs.Takes.{can_take, choices, choices_in, goes_before, is_none_left, numbered, unblocked}
-use Rattle.tr_model.proofs.Among.{Among, among_filter, among_left, among_right}
+use Rattle.tr_model.proofs.Among.{Among, among_filter, among_left, among_right, filter_among}
 use Rattle.tr_model.proofs.Sorted.{InOrder, Past, in_order_filter, sorted_filter, sorted_instances}
 
 -- The first instance of the least number
@@ -128,3 +129,170 @@ taken_by_choice T t s c = go (is_ready_to_take t) refl
         let h = taking t.mask own shared (queue_in_order T (target.Thread t.id) s) (queue_in_order T (target.Group t.group) s) (rw e at c) in
         record { instance = h.instance; best = rw e h.best; found = numbered_there h.instance (choices T t) (rw e h.among) }
     go false e = absurd (true≢false (sym (rw e at c)))
+
+-- Whether a thread can take something: whether something is best for it, in whatever order the queues stand
+
+-- one that no other goes before, first by number and then by acceptance
+record Least (is : List Instance) : Type 0 where
+  first : Instance
+  among : Among first is
+  none : NoneBefore first is
+
+before_all : (x i : Instance) (js : List Instance) → ((j : Instance) → i.sig ≤ j.sig → (j.sig ≡ i.sig → i.n ≤ j.n) → (x.sig ≤ j.sig) × (j.sig ≡ x.sig → x.n ≤ j.n)) → NoneBefore i js → NoneBefore x js
+before_all x i [] f h = tt
+before_all x i (j ∷ js) f h = (f j h.0.0 h.0.1, before_all x i js f h.1)
+
+some_least : (x : Instance) (xs : List Instance) → Least (x ∷ xs)
+some_least x [] = record { first = x; among = inl refl; none = ((omega arith, λ _. omega arith), tt) }
+some_least x (y ∷ ys) = go (some_least y ys)
+  where
+    itself : (x.sig ≤ x.sig) × (x.sig ≡ x.sig → x.n ≤ x.n)
+    itself = (omega arith, λ _. omega arith)
+
+    go : Least (y ∷ ys) → Least (x ∷ y ∷ ys)
+    go l = by_sig (cases_lt x.sig l.first.sig)
+      where
+        by_n : x.sig ≡ l.first.sig → (x.n < l.first.n) ⊎ (l.first.n ≤ x.n) → Least (x ∷ y ∷ ys)
+        by_n e (inl h) = record { first = x; among = inl refl; none = (itself, before_all x l.first (y ∷ ys) (λ j a b. (omega (arith, e, a), λ q. let c = b (q ∙ e) in omega (arith, h, c))) l.none) }
+        by_n e (inr h) = record { first = l.first; among = inr l.among; none = ((omega (arith, e), λ q. omega (arith, h)), l.none) }
+
+        by_rest : l.first.sig ≤ x.sig → (l.first.sig < x.sig) ⊎ (x.sig ≤ l.first.sig) → Least (x ∷ y ∷ ys)
+        by_rest k (inl h) = record { first = l.first; among = inr l.among; none = ((omega (arith, h), λ q. omega (arith, h, q)), l.none) }
+        by_rest k (inr h) = by_n (omega (arith, h, k)) (cases_lt x.n l.first.n)
+
+        by_sig : (x.sig < l.first.sig) ⊎ (l.first.sig ≤ x.sig) → Least (x ∷ y ∷ ys)
+        by_sig (inl h) = record { first = x; among = inl refl; none = (itself, before_all x l.first (y ∷ ys) (λ j a b. (omega (arith, h, a), λ q. omega (arith, h, a, q))) l.none) }
+        by_sig (inr h) = by_rest h (cases_lt l.first.sig x.sig)
+
+among_some : (i : Instance) (is : List Instance) → Among i is → is_none_left is ≡ false
+among_some i [] m = absurd m
+among_some i (x ∷ is) m = refl
+
+left_where_best : (mask : SigSet) (is : List Instance) → is_none_left (choices_in (unblocked mask is)) ≡ not (is_some (best_of mask is))
+left_where_best mask is = go (unblocked mask is) (best_is_least mask is)
+  where
+    go : (xs : List Instance) → best_of mask is ≡ least xs → is_none_left (choices_in xs) ≡ not (is_some (best_of mask is))
+    go [] e = rw e refl
+    go (x ∷ xs) e =
+        let l = some_least x xs in
+        rw e (among_some l.first (choices_in (x ∷ xs)) (among_filter (λ j. list_all (λ k. not (goes_before k j)) (x ∷ xs)) l.first (x ∷ xs) l.among (all_stay l.first (x ∷ xs) l.none)))
+
+none_left_append : (xs ys : List Instance) → is_none_left (xs ++ ys) ≡ (is_none_left xs && is_none_left ys)
+none_left_append [] ys = refl
+none_left_append (x ∷ xs) ys = refl
+
+either_some : (a b : Option Instance) → not (not (is_some a) && not (is_some b)) ≡ is_some (or_other a b)
+either_some None None = refl
+either_some None (Some j) = refl
+either_some (Some i) b = refl
+
+pub can_take_best : (T : Table) (t : Thread) → can_take T t ≡ is_some (best_for T t)
+can_take_best T t = go (is_ready_to_take t) refl
+  where
+    go : (b : Bool) → is_ready_to_take t ≡ b → can_take T t ≡ is_some (best_for T t)
+    go false e = rw e refl
+    go true e =
+        let own = queue T (target.Thread t.id) in
+        let shared = queue T (target.Group t.group) in
+        let h : not (is_none_left (choices_in (unblocked t.mask own) ++ choices_in (unblocked t.mask shared))) ≡ is_some (or_other (best_of t.mask own) (best_of t.mask shared)) =
+            ap not (none_left_append (choices_in (unblocked t.mask own)) (choices_in (unblocked t.mask shared)))
+            ∙ (ap (λ b. not (b && is_none_left (choices_in (unblocked t.mask shared)))) (left_where_best t.mask own)
+            ∙ (ap (λ b. not (not (is_some (best_of t.mask own)) && b)) (left_where_best t.mask shared)
+            ∙ either_some (best_of t.mask own) (best_of t.mask shared))) in
+        rw e h
+
+-- What is best for a thread is the choice of its number, and waits
+
+among_either : (i : Instance) (xs ys : List Instance) → Among i (xs ++ ys) → Among i xs ⊎ Among i ys
+among_either i [] ys m = inr m
+among_either i (x ∷ xs) ys (inl e) = inl (inl e)
+among_either i (x ∷ xs) ys (inr m) = later (among_either i xs ys m)
+  where
+    later : Among i xs ⊎ Among i ys → Among i (x ∷ xs) ⊎ Among i ys
+    later (inl h) = inl (inr h)
+    later (inr h) = inr h
+
+abbrev all_instances : List Waiting → List Instance
+all_instances ws = map (λ w. w.instance) ws
+
+among_queue : (p : Waiting → Bool) (i : Instance) (ws : List Waiting) → Among i (all_instances (filter p ws)) → Among i (all_instances ws)
+among_queue p i [] m = absurd m
+among_queue p i (w ∷ ws) m = go (p w) m (among_queue p i ws)
+  where
+    go : (b : Bool) → Among i (all_instances (cond b (w ∷ filter p ws) (filter p ws))) → (Among i (all_instances (filter p ws)) → Among i (all_instances ws)) → Among i (w.instance ∷ all_instances ws)
+    go true (inl e) r = inl e
+    go true (inr h) r = inr (r h)
+    go false h r = inr (r h)
+
+chosen_waits : (T : Table) (mask : SigSet) (q : Target) (i : Instance) → Among i (choices_in (unblocked mask (queue T q))) → Among i (all_instances T.waiting)
+chosen_waits T mask q i m =
+    let xs = unblocked mask (queue T q) in
+    let a = filter_among (λ j. list_all (λ k. not (goes_before k j)) xs) i xs m in
+    let b = filter_among (λ j. not (has mask j.sig)) i (queue T q) a.0 in
+    among_queue (λ w. same_target q w.target) i T.waiting b.0
+
+past_among : (n : ℕ) (i : Instance) (is : List Instance) → Past n is → Among i is → n < i.n
+past_among n i [] p m = absurd m
+past_among n i (x ∷ is) p (inl e) = subst (λ z. n < z.n) (sym e) p.0
+past_among n i (x ∷ is) p (inr m) = past_among n i is p.1 m
+
+same_number : (i j : Instance) (is : List Instance) → InOrder is → Among i is → Among j is → i.n ≡ j.n → i ≡ j
+same_number i j [] o m k e = absurd m
+same_number i j (x ∷ is) o (inl p) (inl q) e = p ∙ sym q
+same_number i j (x ∷ is) o (inl p) (inr k) e = absurd (let h = past_among x.n j is o.0 k in let s : i.n ≡ x.n = ap (λ z. z.n) p in omega (arith, h, s, e))
+same_number i j (x ∷ is) o (inr m) (inl q) e = absurd (let h = past_among x.n i is o.0 m in let s : j.n ≡ x.n = ap (λ z. z.n) q in omega (arith, h, s, e))
+same_number i j (x ∷ is) o (inr m) (inr k) e = same_number i j is o.1 m k e
+
+numbered_is : (i : Instance) (is : List Instance) → Among i is → ((j : Instance) → Among j is → j.n ≡ i.n → j ≡ i) → numbered i.n is ≡ Some i
+numbered_is i [] m u = absurd m
+numbered_is i (x ∷ xs) m u = go (x.n == i.n) refl m (λ k. numbered_is i xs k (λ j h. u j (inr h)))
+  where
+    go : (b : Bool) → (x.n == i.n) ≡ b → (i ≡ x) ⊎ Among i xs → (Among i xs → numbered i.n xs ≡ Some i) → (if b then Some x else numbered i.n xs) ≡ Some i
+    go true e k r = ap Some (u x (inl refl) (eqb-true x.n i.n e))
+    go false e (inl s) r = absurd (eqb-false x.n i.n e (ap (λ z. z.n) (sym s)))
+    go false e (inr k) r = r k
+
+instance_numbered : (n : ℕ) (ws : List Waiting) → instance_in ws n ≡ numbered n (all_instances ws)
+instance_numbered n [] = refl
+instance_numbered n (w ∷ ws) = ap (λ o. if w.instance.n == n then Some w.instance else o) (instance_numbered n ws)
+
+pub record Best (T : Table) (t : Thread) (i : Instance) : Type 0 where
+  pub ready : is_ready_to_take t ≡ true
+  pub chosen : numbered i.n (choices T t) ≡ Some i
+  pub waits : instance_in T.waiting i.n ≡ Some i
+
+pub best_is_chosen : (T : Table) (t : Thread) (i : Instance) → IsSorted T.waiting → best_for T t ≡ Some i → Best T t i
+best_is_chosen T t i s e = go (is_ready_to_take t) refl
+  where
+    own : List Instance
+    own = queue T (target.Thread t.id)
+
+    shared : List Instance
+    shared = queue T (target.Group t.group)
+
+    order : InOrder (all_instances T.waiting)
+    order = sorted_instances T.waiting s
+
+    waiting : (j : Instance) → Among j (choices_in (unblocked t.mask own) ++ choices_in (unblocked t.mask shared)) → Among j (all_instances T.waiting)
+    waiting j m = from (among_either j (choices_in (unblocked t.mask own)) (choices_in (unblocked t.mask shared)) m)
+      where
+        from : Among j (choices_in (unblocked t.mask own)) ⊎ Among j (choices_in (unblocked t.mask shared)) → Among j (all_instances T.waiting)
+        from (inl h) = chosen_waits T t.mask (target.Thread t.id) j h
+        from (inr h) = chosen_waits T t.mask (target.Group t.group) j h
+
+    make : is_ready_to_take t ≡ true → Among i (choices_in (unblocked t.mask own) ++ choices_in (unblocked t.mask shared)) → Best T t i
+    make r m =
+        let w = waiting i m in
+        let c = numbered_is i (choices_in (unblocked t.mask own) ++ choices_in (unblocked t.mask shared)) m (λ j k q. same_number j i (all_instances T.waiting) order (waiting j k) w q) in
+        record { ready = r; chosen = rw r c; waits = instance_numbered i.n T.waiting ∙ numbered_is i (all_instances T.waiting) w (λ j k q. same_number j i (all_instances T.waiting) order k w q) }
+
+    go : (b : Bool) → is_ready_to_take t ≡ b → Best T t i
+    go false r = absurd (none (sym (rw r at e)))
+      where
+        none : Some i ≡ None → ⊥
+        none q = cc
+    go true r = by (best_of t.mask own) refl (rw r at e)
+      where
+        by : (o : Option Instance) → best_of t.mask own ≡ o → or_other o (best_of t.mask shared) ≡ Some i → Best T t i
+        by (Some j) f q = let same : j ≡ i = cc in make r (among_left i _ _ (best_is_choice t.mask own i (queue_in_order T (target.Thread t.id) s) (f ∙ ap Some same)))
+        by None f q = make r (among_right i (choices_in (unblocked t.mask own)) _ (best_is_choice t.mask shared i (queue_in_order T (target.Group t.group) s) q))
