@@ -13,14 +13,16 @@ use Rattle.tr_tracee.specs.declared.thread.Thread.{Thread}
 use Rattle.tr_tracee.specs.Ends.{broken}
 use Rattle.tr_tracee.specs.Lives.{held}
 use Rattle.tr_tracee.specs.Marks.{cont_noted, cont_noted_life, continued, continued_life, marked, noted}
-use Rattle.tr_tracee.specs.Threads.{throughout}
+use Rattle.tr_tracee.specs.Threads.{only, throughout}
 use Rattle.tr_group.specs.Members.{continued_by}
 use Rattle.tr_model.specs.declared.fates.Fate.{Fate}
 use Rattle.tr_model.specs.declared.rows.Group.{Group}
 use Rattle.tr_model.specs.Moves.{Work, each, ends, endings, group_changed, only_group, with_note}
 use Rattle.tr_table.specs.declared.groups.GroupChange.{GroupChange}
 use Rattle.tr_table.specs.declared.groups.GroupChange.TheVariants as group
-use Rattle.tr_table.specs.Changes.{regrouped}
+use Rattle.tr_table.specs.declared.threads.Own.{Own}
+use Rattle.tr_table.specs.declared.threads.Own.TheVariants as thread
+use Rattle.tr_table.specs.Changes.{own, regrouped}
 use Rattle.tr_table.specs.Held.{helds, one}
 use Rattle.tr_table.specs.View.{View}
 use Rattle.tr_signals.specs.declared.log.Log.{Log}
@@ -57,6 +59,18 @@ helds_cont_noted g ts = helds_same g cont_noted (λ t. held_cont_noted t.life) t
 
 pub helds_continued : (g : ℕ) (b : Bool) (ts : List Thread) → helds (map (throughout g (continued_by b)) ts) ≡ helds ts
 helds_continued g b ts = helds_same g (continued_by b) (held_continued_by b) ts
+
+held_own : (c : Own) (t : Thread) → is_some (held (own c t).life) ≡ is_some (held t.life)
+held_own (thread.Mask set) t = refl
+held_own (thread.Pausing p) t = refl
+
+pub helds_own : (id : ℕ) (c : Own) (ts : List Thread) → helds (map (only id (own c)) ts) ≡ helds ts
+helds_own id c [] = refl
+helds_own id c (t ∷ ts) = go (t.id == id) (helds_own id c ts)
+  where
+    go : (b : Bool) → helds (map (only id (own c)) ts) ≡ helds ts → one (is_some (held (if b then own c t else t).life)) + helds (map (only id (own c)) ts) ≡ one (is_some (held t.life)) + helds ts
+    go true ih = rw (held_own c t, ih) refl
+    go false ih = rw ih refl
 
 -- a change that gives no thread an instance
 pub record Gives (f : Thread → Thread) : Type 0 where

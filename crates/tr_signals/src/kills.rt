@@ -9,12 +9,12 @@ ghost use Rattle.tr_signals.specs.Did.{Did};
 ghost use Rattle.tr_signals.specs.Kills.{is_over_limit};
 
 use std::alloc::{AllocError, Global};
-use tr_model::{Checked, Choice, Ending, Fate, Refusal, Reply, Target};
+use tr_model::{Checked, Ending, Fate, Refusal, Reply, Target};
 use tr_pending::Info;
 use tr_sigset::Signal;
 use tr_table::Table;
 
-use crate::log::{Made, reserve};
+use crate::log::{Made, NO_CHOICE, reserve};
 use crate::sends::send;
 use crate::stops::settle;
 
@@ -37,13 +37,6 @@ pub fn check_kill(table: &Table, tgid: u32, sig: u8) -> Result<Checked, Refusal>
     }
     Ok(Checked::Due(NO_CHOICE))
 }
-
-const NO_CHOICE: Choice = Choice {
-    thread: None,
-    instance: None,
-    report: None,
-    new_id: None,
-};
 
 fn is_over_limit(table: &Table, sig: u8) -> bool
     ensures { result ≡ is_over_limit table.now.table sig }

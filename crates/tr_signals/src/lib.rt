@@ -3,9 +3,13 @@
 
 mod kills;
 mod log;
+mod masks;
 mod moves;
 mod sends;
 mod stops;
+mod takes;
 
 pub use kills::{check_kill, kill};
 pub use log::{Log, Made};
+pub use masks::{check_mask, mask};
+pub use takes::check_take;

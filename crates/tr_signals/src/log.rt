@@ -3,7 +3,7 @@ ghost use Rattle.tr_model.specs.Moves.{begin};
 ghost use Rattle.tr_signals.specs.Shows.{Room, Shows};
 
 use std::alloc::{AllocError, Global};
-use tr_model::{Ending, Reply, Target};
+use tr_model::{Choice, Ending, Reply, Target};
 use tr_table::Table;
 
 /// What a step has done so far, beside the table.
@@ -27,6 +27,14 @@ pub struct Made {
     pub killed: Vec<u32>,
     pub taken_from: Option<Target>,
 }
+
+/// The choice of an entry that the model leaves none.
+pub(crate) const NO_CHOICE: Choice = Choice {
+    thread: None,
+    instance: None,
+    report: None,
+    new_id: None,
+};
 
 /// Reserves places for all that a step of n moves may log or queue. Where memory is refused the table stays as it was.
 pub(crate) fn reserve(table: &mut Table, alloc: Global, n: usize) -> Result<Log, AllocError>

@@ -4,16 +4,16 @@ ghost use Rattle.tr_model.specs.Moves.{Work, accept_as, alter, become, enqueue, 
 ghost use Rattle.tr_model.specs.Sends.{flush_in};
 ghost use Rattle.tr_tracee.specs.Ends.{broken};
 ghost use Rattle.tr_tracee.specs.Marks.{cont_noted, marked};
-ghost use Rattle.tr_tracee.specs.Threads.{throughout};
+ghost use Rattle.tr_tracee.specs.Threads.{only, throughout};
 ghost use Rattle.tr_group.specs.Members.{continued_by};
-ghost use Rattle.tr_table.specs.Changes.{flushes, regrouped, tgids};
+ghost use Rattle.tr_table.specs.Changes.{flushes, own, regrouped, tgids};
 ghost use Rattle.tr_signals.specs.Shows.{Room, Shows};
 ghost use Rattle.tr_signals.specs.declared.log.Log.{Log};
 
 use tr_model::{Ending, Fate, Target};
 use tr_pending::Info;
 use tr_sigset::Signal;
-use tr_table::{Flush, GroupChange, Table};
+use tr_table::{Flush, GroupChange, Own, Table};
 use tr_tracee::End;
 use tr_wait::Status;
 
@@ -47,6 +47,15 @@ pub(crate) fn continue_threads(table: &mut Table, tgid: u32, in_effect: bool)
     ensures tgids { tgids table.new.table ≡ tgids table.old.table }
 {
     table.continue_threads(tgid, in_effect);
+}
+
+#[tactic(auto, using(crate::proofs::Rooms::helds_own))]
+pub(crate) fn change_thread(table: &mut Table, id: u32, change: &Own)
+    ensures shows { (l : Log) (w : Work) → Shows table.old l w → Shows table.new l (alter (only id (own change.now)) w) }
+    ensures room { (l : Log) (n : ℕ) → Room table.old l n → Room table.new l n }
+    ensures tgids { tgids table.new.table ≡ tgids table.old.table }
+{
+    table.change_thread(id, change);
 }
 
 #[tactic(auto, using(crate::proofs::Rooms::regrouped_tgids))]
