@@ -13,7 +13,7 @@ use Rattle.tr_tracee.specs.declared.thread.Thread.{Thread}
 use Rattle.tr_model.specs.declared.rows.Target.{Target}
 use Rattle.tr_model.specs.declared.rows.Target.TheVariants as target
 use Rattle.tr_model.specs.declared.rows.Waiting.{Waiting}
-use Rattle.tr_model.specs.Journals.{IsSorted}
+use Rattle.tr_model.specs.Journals.{IsSorted, taken_by}
 use Rattle.tr_model.specs.Moves.{instance_in}
 use Rattle.tr_model.specs.Preferred.{best_for, or_other}
 use Rattle.tr_model.specs.Tables.{Table, queue, same_target}
@@ -256,10 +256,16 @@ instance_numbered : (n : ℕ) (ws : List Waiting) → instance_in ws n ≡ numbe
 instance_numbered n [] = refl
 instance_numbered n (w ∷ ws) = ap (λ o. if w.instance.n == n then Some w.instance else o) (instance_numbered n ws)
 
+-- the queue that it comes from
+abbrev pub taken_from : Option Instance → Thread → Target
+taken_from (Some i) t = target.Thread t.id
+taken_from None t = target.Group t.group
+
 pub record Best (T : Table) (t : Thread) (i : Instance) : Type 0 where
   pub ready : is_ready_to_take t ≡ true
   pub chosen : numbered i.n (choices T t) ≡ Some i
   pub waits : instance_in T.waiting i.n ≡ Some i
+  pub taken : taken_by T (Some t) i.n ≡ Some (record { number = i.n; signal = i.sig; queue = taken_from (best_of t.mask (queue T (target.Thread t.id))) t })
 
 pub best_is_chosen : (T : Table) (t : Thread) (i : Instance) → IsSorted T.waiting → best_for T t ≡ Some i → Best T t i
 best_is_chosen T t i s e = go (is_ready_to_take t) refl
@@ -280,11 +286,18 @@ best_is_chosen T t i s e = go (is_ready_to_take t) refl
         from (inl h) = chosen_waits T t.mask (target.Thread t.id) j h
         from (inr h) = chosen_waits T t.mask (target.Group t.group) j h
 
-    make : is_ready_to_take t ≡ true → Among i (choices_in (unblocked t.mask own) ++ choices_in (unblocked t.mask shared)) → Best T t i
-    make r m =
+    Is : List Instance → Type 0
+    Is xs = numbered i.n xs ≡ Some i
+
+    only_one : (xs : List Instance) → ((j : Instance) → Among j xs → Among j (all_instances T.waiting)) → Among i xs → Is xs
+    only_one xs from m = numbered_is i xs m (λ j k q. same_number j i (all_instances T.waiting) order (from j k) (from i m) q)
+
+    make : is_ready_to_take t ≡ true → Among i (choices_in (unblocked t.mask own) ++ choices_in (unblocked t.mask shared))
+        → taken_by T (Some t) i.n ≡ Some (record { number = i.n; signal = i.sig; queue = taken_from (best_of t.mask own) t }) → Best T t i
+    make r m q =
         let w = waiting i m in
-        let c = numbered_is i (choices_in (unblocked t.mask own) ++ choices_in (unblocked t.mask shared)) m (λ j k q. same_number j i (all_instances T.waiting) order (waiting j k) w q) in
-        record { ready = r; chosen = rw r c; waits = instance_numbered i.n T.waiting ∙ numbered_is i (all_instances T.waiting) w (λ j k q. same_number j i (all_instances T.waiting) order k w q) }
+        let c = only_one (choices_in (unblocked t.mask own) ++ choices_in (unblocked t.mask shared)) waiting m in
+        record { ready = r; chosen = rw r c; waits = instance_numbered i.n T.waiting ∙ only_one (all_instances T.waiting) (λ j k. k) w; taken = q }
 
     go : (b : Bool) → is_ready_to_take t ≡ b → Best T t i
     go false r = absurd (none (sym (rw r at e)))
@@ -294,5 +307,12 @@ best_is_chosen T t i s e = go (is_ready_to_take t) refl
     go true r = by (best_of t.mask own) refl (rw r at e)
       where
         by : (o : Option Instance) → best_of t.mask own ≡ o → or_other o (best_of t.mask shared) ≡ Some i → Best T t i
-        by (Some j) f q = let same : j ≡ i = cc in make r (among_left i _ _ (best_is_choice t.mask own i (queue_in_order T (target.Thread t.id) s) (f ∙ ap Some same)))
-        by None f q = make r (among_right i (choices_in (unblocked t.mask own)) _ (best_is_choice t.mask shared i (queue_in_order T (target.Group t.group) s) q))
+        by (Some j) f q =
+            let same : j ≡ i = cc in
+            let m = best_is_choice t.mask own i (queue_in_order T (target.Thread t.id) s) (f ∙ ap Some same) in
+            let n = only_one (choices_in (unblocked t.mask own)) (λ k h. chosen_waits T t.mask (target.Thread t.id) k h) m in
+            make r (among_left i _ _ m) (rw (r, n, f) refl)
+        by None f q =
+            let m = best_is_choice t.mask shared i (queue_in_order T (target.Group t.group) s) q in
+            let n = only_one (choices_in (unblocked t.mask shared)) (λ k h. chosen_waits T t.mask (target.Group t.group) k h) m in
+            make r (among_right i (choices_in (unblocked t.mask own)) _ m) (rw (r, no_choice_left t.mask own f, n, f) refl)

@@ -22,8 +22,18 @@ use crate::masks::best_for;
 
 // Which pending signal a thread takes, and what it does with it: signal(7), and "Signal-delivery-stop" of ptrace(2).
 
+fn taking(n: u64) -> Choice
+    ensures { result ≡ takes_instance n }
+{
+    Choice {
+        instance: Some(n),
+        ..NO_CHOICE
+    }
+}
+
 /// Whether a take by a thread is refused, answered Nothing, or due. ESRCH comes where there is no such thread,
 /// NotRunning where it isn't free, and Busy where it has a mark to serve first.
+#[tactic(auto, using(tr_model::proofs::Takable::can_take_best))]
 pub fn check_take(table: &Table, tid: u32) -> Result<Checked, Refusal>
     ensures { (actor : ℕ) → result ≡ checked table.now.table actor (Take tid) }
 {
@@ -36,13 +46,10 @@ pub fn check_take(table: &Table, tid: u32) -> Result<Checked, Refusal>
     if thread.has_mark() {
         return Err(Refusal::Busy);
     }
-    Ok(match best_for(table, thread) {
-        Some(instance) => Checked::Due(Choice {
-            instance: Some(instance.n),
-            ..NO_CHOICE
-        }),
-        None => Checked::Quiet(Reply::Nothing),
-    })
+    match best_for(table, thread) {
+        Some(instance) => Ok(Checked::Due(taking(instance.n))),
+        None => Ok(Checked::Quiet(Reply::Nothing)),
+    }
 }
 
 fn did_of(action: Action, signal: Signal) -> Did
