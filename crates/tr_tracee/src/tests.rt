@@ -16,8 +16,8 @@ fn set_of(numbers: &[u8]) -> Result<SigSet, Fail> {
     Ok(set)
 }
 
-/// The third signal that was accepted, by kill(2).
-fn third(number: u8) -> Result<Instance, Fail> {
+/// The third signal that was accepted: USR1, by kill(2).
+fn third() -> Result<Instance, Fail> {
     let info = Info {
         code: 0,
         pid: 1,
@@ -25,8 +25,16 @@ fn third(number: u8) -> Result<Instance, Fail> {
     };
     Ok(Instance {
         n: 3,
-        sig: signal(number)?,
+        sig: signal(10)?,
         info,
+    })
+}
+
+/// The signal-delivery-stop that holds it.
+fn caught(cont_came: bool) -> Result<Stop, Fail> {
+    Ok(Stop::Signal {
+        held: third()?,
+        cont_came,
     })
 }
 
@@ -80,12 +88,8 @@ fn plain(stop: &Stop, status: &Status) -> Case {
 }
 
 fn signal_delivery_stop() -> Result<Case, Fail> {
-    let stop = Stop::Signal {
-        held: third(10)?,
-        cont_came: false,
-    };
-    let mut case = plain(&stop, &Status::Stopped(signal(10)?));
-    case.held = Some(third(10)?);
+    let mut case = plain(&caught(false)?, &Status::Stopped(signal(10)?));
+    case.held = Some(third()?);
     Ok(case)
 }
 
@@ -138,7 +142,12 @@ fn stops_and_restarts(rt: HostRuntime) -> Result<(), Fail> {
         };
         assert_eq!(rt; entered.report, Some(report), "at {:?}", case.stop);
         assert_eq!(rt; entered.life.held(), case.held, "at {:?}", case.stop);
-        assert_eq!(rt; entered.note_mark, !case.stop.is_event(), "at {:?}", case.stop);
+        assert_eq!(rt;
+            entered.note_mark,
+            !case.stop.is_event(),
+            "at {:?}",
+            case.stop
+        );
         assert!(rt; !entered.trap_mark && entered.life.is_in_stop());
 
         let mut detached = entered;
@@ -169,7 +178,12 @@ fn detaching(rt: HostRuntime) {
         (Life::Listening, false, Life::Free, false),
         (Life::Listening, true, Life::Stopped, true),
         (Life::Stopped, true, Life::Stopped, false),
-        (Life::Leaving { end, told: false }, true, Life::Leaving { end, told: true }, false),
+        (
+            Life::Leaving { end, told: false },
+            true,
+            Life::Leaving { end, told: true },
+            false,
+        ),
         (Life::Dead(end), true, Life::Dead(end), false),
     ];
     for (life, in_effect, want, joined) in &lives {
@@ -200,8 +214,21 @@ fn beginning_to_leave(rt: HostRuntime) -> Result<(), Fail> {
         (stopped, exit, false, untold),
         (stopped, exit, true, told),
         (Life::InStop(Stop::Exit(0)), exit, false, told),
-        (Life::Leaving { end: End::Exited(0), told: true }, exit, false, told),
-        (Life::Dead(End::Exited(0)), exit, true, Life::Dead(End::Exited(0))),
+        (
+            Life::Leaving {
+                end: End::Exited(0),
+                told: true,
+            },
+            exit,
+            false,
+            told,
+        ),
+        (
+            Life::Dead(End::Exited(0)),
+            exit,
+            true,
+            Life::Dead(End::Exited(0)),
+        ),
     ];
     for (life, options, kill, want) in &cases {
         let mut thread = seized(life, *options);
@@ -221,7 +248,13 @@ fn marks(rt: HostRuntime) -> Result<(), Fail> {
         (Life::Execing, true),
         (Life::InStop(Stop::Event(StopSig::Stop)), true),
         (Life::InStop(Stop::Exit(0)), false),
-        (Life::Leaving { end: End::Exited(0), told: false }, false),
+        (
+            Life::Leaving {
+                end: End::Exited(0),
+                told: false,
+            },
+            false,
+        ),
         (Life::Dead(End::Exited(0)), false),
     ] {
         let mut thread = seized(&life, Options::NONE);
@@ -235,16 +268,15 @@ fn marks(rt: HostRuntime) -> Result<(), Fail> {
     stopped.joined = true;
     stopped.mark();
     stopped.note();
-    assert!(rt; !stopped.has_mark(), "it is stopped already, and nobody seized it");
+    assert!(rt;
+        !stopped.has_mark(),
+        "it is stopped already, and nobody seized it"
+    );
     stopped.continue_one();
     assert!(rt; stopped.is_ready_to_take() && !stopped.joined);
-    let mut caught = seized(&Life::InStop(signal_delivery_stop()?.stop), Options::NONE);
-    caught.note_cont();
-    let want = Stop::Signal {
-        held: third(10)?,
-        cont_came: true,
-    };
-    assert_eq!(rt; caught.life, Life::InStop(want));
+    let mut tracee = seized(&Life::InStop(caught(false)?), Options::NONE);
+    tracee.note_cont();
+    assert_eq!(rt; tracee.life, Life::InStop(caught(true)?));
     Ok(())
 }
 
@@ -260,6 +292,9 @@ fn masks_and_pauses(rt: HostRuntime) -> Result<(), Fail> {
     thread.interrupt();
     assert!(rt; thread.has_mark() && !thread.is_ready_to_take());
     assert_eq!(rt; End::Exited(3).status(), Status::Exited(3));
-    assert_eq!(rt; End::Killed(signal(9)?).status(), Status::Killed(signal(9)?));
+    assert_eq!(rt;
+        End::Killed(signal(9)?).status(),
+        Status::Killed(signal(9)?)
+    );
     Ok(())
 }
