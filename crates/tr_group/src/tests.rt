@@ -66,7 +66,7 @@ fn signal(number: u8) -> Result<Signal, Fail> {
     Ok(Signal::new(number).ok_or("not the number of a signal")?)
 }
 
-/// A thread of a group of its own, which nobody traces.
+/// A thread that nobody traces.
 fn thread(id: u32, group: u32, life: &Life) -> Thread {
     Thread {
         id,
@@ -174,7 +174,11 @@ fn a_cont_notes_and_continues(rt: HostRuntime) -> Result<(), Fail> {
             marked.stop_mark = false;
         }
         let want = [listening, other, stopped, marked];
-        assert_eq!(rt; roster.all.as_slice(), want.as_slice(), "in effect: {in_effect}");
+        assert_eq!(rt;
+            roster.all.as_slice(),
+            want.as_slice(),
+            "in effect: {in_effect}"
+        );
     }
     Ok(())
 }
@@ -190,7 +194,13 @@ fn a_cont_is_noted_at_a_signal_delivery_stop(rt: HostRuntime) -> Result<(), Fail
     };
     note_cont(&mut roster, 10);
     for thread in &roster.all {
-        let came = matches!(thread.life, Life::InStop(Stop::Signal { cont_came: true, .. }));
+        let came = matches!(
+            thread.life,
+            Life::InStop(Stop::Signal {
+                cont_came: true,
+                ..
+            })
+        );
         assert_eq!(rt; came, thread.id == 10, "at {}", thread.id);
     }
     Ok(())
@@ -223,7 +233,10 @@ fn a_group_dies(rt: HostRuntime) -> Result<(), Fail> {
         for thread in &roster.all {
             lives.push(thread.life)?;
         }
-        assert_eq!(rt; lives.as_slice(), [stops, stays, stops, ends, before].as_slice());
+        assert_eq!(rt;
+            lives.as_slice(),
+            [stops, stays, stops, ends, before].as_slice()
+        );
     }
     Ok(())
 }
@@ -231,9 +244,20 @@ fn a_group_dies(rt: HostRuntime) -> Result<(), Fail> {
 /// Signal dispositions and the group-stop: signal(7), ptrace(2).
 #[test]
 fn actions_and_group_stops(rt: HostRuntime) -> Result<(), Fail> {
-    for (number, does_nothing) in [(17, true), (18, true), (23, true), (28, true), (10, false), (19, false)] {
+    for (number, does_nothing) in [
+        (17, true),
+        (18, true),
+        (23, true),
+        (28, true),
+        (10, false),
+        (19, false),
+    ] {
         let signal = signal(number)?;
-        assert_eq!(rt; Action::Default.ignores(signal), does_nothing, "at {number}");
+        assert_eq!(rt;
+            Action::Default.ignores(signal),
+            does_nothing,
+            "at {number}"
+        );
         assert!(rt; Action::Ignore.ignores(signal) && !Action::Catch.ignores(signal));
     }
     let mut stop = GroupStop::No;
