@@ -1,1 +1,2 @@
 pub mod MembersKept
+pub mod Places

@@ -1,12 +1,11 @@
 -- A change of a group's threads, one after the other, and what they hold.
-use Rattle.std.proofs.Common.{◌≡◌, ℕ, zero, suc, ◌+◌, ◌<◌, ◌≤◌, List, [], ◌∷◌, ◌++◌, length, Option, Some, None, Bool, true, false, if◌then◌else◌, ◌==◌, map, refl, ap, sym, ◌∙◌, arith, add-one, length-append, append_assoc}
-use Rattle.tr_pending.specs.declared.instance.Instance.{Instance}
+use Rattle.std.proofs.Common.{◌≡◌, ℕ, zero, suc, ◌+◌, ◌<◌, ◌≤◌, List, [], ◌∷◌, ◌++◌, length, Some, Bool, true, false, if◌then◌else◌, ◌==◌, map, refl, ap, sym, ◌∙◌, arith, add-one, length-append, append_assoc}
 use Rattle.tr_tracee.specs.declared.thread.Thread.{Thread}
 use Rattle.tr_tracee.specs.Lives.{held, is_dead}
 use Rattle.tr_tracee.specs.Threads.{throughout}
 use Rattle.tr_group.specs.declared.members.Change.{Change}
 use Rattle.tr_group.specs.declared.members.Change.TheVariants as change
-use Rattle.tr_group.specs.Members.{applied, at_place, put_place, first_changed, count_in, member, put_member, upto, held_in, held_upto, first_held, number_held}
+use Rattle.tr_group.specs.Members.{applied, at_place, first_changed, count_in, member, put_member, upto, held_in, held_upto, first_held, number_held}
 
 pub upto_none : (g : ℕ) (f : Thread → Thread) (ts : List Thread) → upto 0 g f ts ≡ ts
 upto_none g f [] = refl

@@ -1,7 +1,7 @@
 -- What an action makes of a signal: signal(7), "Signal dispositions".
 use Rattle.std.specs.Prelude.{ℕ, Bool, true, false}
 use Rattle.tr_sigset.specs.declared.signals.Base.{Base}
-use Rattle.tr_sigset.specs.declared.signals.Base.TheVariants.{Term, Core, Ignored, Stop, Continue}
+use Rattle.tr_sigset.specs.declared.signals.Base.TheVariants.{Ignored, Continue}
 use Rattle.tr_sigset.specs.Signals.{base_of}
 use Rattle.tr_group.specs.declared.stops.Action.{Action}
 use Rattle.tr_group.specs.declared.stops.Action.TheVariants.{Default, Ignore, Catch}

@@ -1,12 +1,11 @@
 -- The threads of one group among all threads, by their place in it, and what happens to all of them.
-use Rattle.std.specs.Prelude.{ℕ, zero, suc, List, [], ◌∷◌, ◌++◌, Bool, Option, Some, None, if◌then◌else◌, ◌==◌}
+use Rattle.std.specs.Prelude.{ℕ, zero, suc, List, [], ◌∷◌, ◌++◌, Bool, Option, Some, None, if◌then◌else◌}
 use Rattle.tr_pending.specs.declared.instance.Instance.{Instance}
-use Rattle.tr_tracee.specs.declared.life.End.{End}
 use Rattle.tr_tracee.specs.declared.thread.Thread.{Thread}
 use Rattle.tr_tracee.specs.Ends.{broken}
 use Rattle.tr_tracee.specs.Lives.{held}
 use Rattle.tr_tracee.specs.Marks.{cont_noted, continued, marked, noted}
-use Rattle.tr_tracee.specs.Threads.{in_group, throughout}
+use Rattle.tr_tracee.specs.Threads.{in_group}
 use Rattle.tr_group.specs.declared.members.Change.{Change}
 use Rattle.tr_group.specs.declared.members.Change.TheVariants as change
 

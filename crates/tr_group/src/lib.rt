@@ -7,3 +7,6 @@ mod stops;
 
 pub use members::{Change, Members, begin_death, continue_all, initiate, leave_all, note_cont};
 pub use stops::{Action, GroupStop};
+
+#[cfg(test)]
+mod tests;

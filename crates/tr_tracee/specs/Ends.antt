@@ -1,5 +1,5 @@
 -- The end of one thread, and what execve(2) and clone(2) make of it.
-use Rattle.std.specs.Prelude.{ℕ, Bool, true, false, not, ◌&&◌, ◌||◌, ◌==◌, Option, Some, None, if◌then◌else◌}
+use Rattle.std.specs.Prelude.{ℕ, Bool, true, false, not, ◌&&◌, ◌||◌, ◌==◌, None, if◌then◌else◌}
 use Rattle.tr_tracee.specs.declared.life.End.{End}
 use Rattle.tr_tracee.specs.declared.life.Life.{Life}
 use Rattle.tr_tracee.specs.declared.life.Life.TheVariants as life

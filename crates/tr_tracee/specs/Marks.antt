@@ -1,5 +1,5 @@
 -- Masks, pauses and the group-stop, for one thread: sigprocmask(2), pause(2), "Group-stop" of ptrace(2).
-use Rattle.std.specs.Prelude.{ℕ, Bool, true, false, not, ◌&&◌, ◌||◌}
+use Rattle.std.specs.Prelude.{Bool, true, false, not, ◌&&◌, ◌||◌}
 use Rattle.tr_sigset.specs.declared.sets.SigSet.{SigSet}
 use Rattle.tr_sigset.specs.Sets.{without}
 use Rattle.tr_tracee.specs.declared.life.Life.{Life}

@@ -6,7 +6,6 @@ use Rattle.tr_tracee.specs.declared.life.Life.TheVariants as life
 use Rattle.tr_tracee.specs.declared.life.Stop.{Stop}
 use Rattle.tr_tracee.specs.declared.life.Stop.TheVariants as stop
 use Rattle.tr_tracee.specs.declared.thread.Options.{Options}
-use Rattle.tr_tracee.specs.declared.thread.Report.{Report}
 use Rattle.tr_tracee.specs.declared.thread.Thread.{Thread}
 use Rattle.tr_tracee.specs.declared.thread.Trace.{Trace}
 use Rattle.tr_tracee.specs.Lives.{is_event_stop, is_in_stop, serves_marks, status_of_stop, end_of_word}

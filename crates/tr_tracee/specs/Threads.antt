@@ -1,6 +1,5 @@
 -- What is read off a thread's record, and where a change applies.
-use Rattle.std.specs.Prelude.{ℕ, ◌==◌, Bool, true, false, not, ◌&&◌, ◌||◌, Option, Some, None, if◌then◌else◌, is_some}
-use Rattle.tr_sigset.specs.declared.sets.SigSet.{SigSet}
+use Rattle.std.specs.Prelude.{ℕ, ◌==◌, Bool, false, not, ◌&&◌, ◌||◌, Option, Some, None, if◌then◌else◌, is_some}
 use Rattle.tr_tracee.specs.declared.thread.Options.{Options}
 use Rattle.tr_tracee.specs.declared.thread.Thread.{Thread}
 use Rattle.tr_tracee.specs.declared.thread.Trace.{Trace}

@@ -10,3 +10,6 @@ mod thread;
 
 pub use life::{End, Life, Stop};
 pub use thread::{Options, Report, Thread, Trace};
+
+#[cfg(test)]
+mod tests;

@@ -1,4 +1,4 @@
-use Rattle.std.proofs.Common.{◌≡◌, ◌<◌, arith, sym, refl}
+use Rattle.std.proofs.Common.{arith, sym}
 use Rattle.tr_group.specs.Members.{applied}
 use Rattle.tr_group.proofs.MembersKept.{upto_none, applied_group, place_is, put_is, all_is}
 use Rattle.tr_group.proofs.members.alter.Goals as goal

@@ -1,4 +1,4 @@
-use Rattle.std.proofs.Common.{◌≡◌, ◌+◌, ◌≤◌, ◌++◌, length, ap, arith, sym, refl, ◌∙◌, ℕ, [], List}
+use Rattle.std.proofs.Common.{length, ap, arith, refl, ◌∙◌, ℕ, List}
 use Rattle.tr_group.proofs.MembersKept.{held_none, many_more, nothing_told, told_all, told_more, told_room}
 use Rattle.tr_group.proofs.members.tell_held.Goals as goal
 
