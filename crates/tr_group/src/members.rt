@@ -108,7 +108,7 @@ pub fn begin_death<M: Members>(
     ensures capacity { vec_capacity gone.new ≡ vec_capacity gone.old }
 {
     tell_held(members, tgid, gone);
-    alter(members, tgid, &Change::Leave(kill, *end));
+    leave_all(members, tgid, kill, end);
 }
 
 /// Each thread of the group that isn't dead begins to leave with this end, as when the group begins to die; told where

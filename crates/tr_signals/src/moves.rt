@@ -1,7 +1,9 @@
-ghost use Rattle.std.specs.Prelude.{◌≡◌, ◌+◌, ◌≤◌, ◌<◌, ℕ};
+ghost use Rattle.std.specs.Prelude.{◌≡◌, ◌+◌, ◌≤◌, ◌<◌, ℕ, false};
 ghost use Rattle.tr_model.specs.declared.fates.Fate.TheVariants.{Flushed};
-ghost use Rattle.tr_model.specs.Moves.{Work, accept_as, alter, become, enqueue, note, only_group, regroup, tell_dying, tell_killed};
+ghost use Rattle.tr_model.specs.Moves.{Work, accept_as, alter, become, enqueue, entered_now, note, only_group, pulled, regroup, tell_dying, tell_killed};
 ghost use Rattle.tr_model.specs.Sends.{flush_in};
+ghost use Rattle.tr_model.specs.Takes.{deliver};
+ghost use Rattle.tr_tracee.specs.declared.life.Stop.TheVariants as stop;
 ghost use Rattle.tr_tracee.specs.Ends.{broken};
 ghost use Rattle.tr_tracee.specs.Marks.{cont_noted, marked};
 ghost use Rattle.tr_tracee.specs.Threads.{only, throughout};
@@ -11,10 +13,10 @@ ghost use Rattle.tr_signals.specs.Shows.{Room, Shows};
 ghost use Rattle.tr_signals.specs.declared.log.Log.{Log};
 
 use tr_model::{Ending, Fate, Target};
-use tr_pending::Info;
+use tr_pending::{Info, Instance};
 use tr_sigset::Signal;
 use tr_table::{Flush, GroupChange, Own, Table};
-use tr_tracee::End;
+use tr_tracee::{End, Stop, Thread};
 use tr_wait::Status;
 
 use crate::log::Log;
@@ -103,6 +105,29 @@ pub(crate) fn flush(table: &mut Table, log: &mut Log, tgid: u32, flush: &Flush)
     ensures tgids { tgids table.new.table ≡ tgids table.old.table }
 {
     table.flush(tgid, flush, &mut log.ended);
+}
+
+pub(crate) fn deliver(table: &mut Table, log: &mut Log, n: u64)
+    requires { Room table.old log.old 0 }
+    ensures shows { (w : Work) → Shows table.old log.old w → Shows table.new log.new (deliver n w) }
+    ensures room { (n : ℕ) → Room table.old log.old n → Room table.new log.new n }
+    ensures tgids { tgids table.new.table ≡ tgids table.old.table }
+{
+    table.deliver(n, &mut log.ended);
+}
+
+pub(crate) fn hold(table: &mut Table, log: &Log, thread: &Thread, instance: &Instance)
+    requires { Room table.old log.now 1 }
+    ensures shows { (l : Log) (w : Work) → Shows table.old l w → Shows table.new l (entered_now (stop.Signal instance.now false) thread.now (pulled instance.now w)) }
+    ensures room { (l : Log) (n : ℕ) → Room table.old l (n + 1) → Room table.new l n }
+    ensures tgids { tgids table.new.table ≡ tgids table.old.table }
+{
+    table.pull(instance.n);
+    let stop = Stop::Signal {
+        held: *instance,
+        cont_came: false,
+    };
+    table.enter(thread.id, &stop);
 }
 
 pub(crate) fn leave(table: &mut Table, log: &mut Log, tgid: u32, kill: bool, end: &End)
