@@ -17,7 +17,8 @@ use Rattle.tr_tracee.specs.Threads.{only, throughout}
 use Rattle.tr_group.specs.Members.{continued_by}
 use Rattle.tr_model.specs.declared.fates.Fate.{Fate}
 use Rattle.tr_model.specs.declared.rows.Group.{Group}
-use Rattle.tr_model.specs.Moves.{Work, each, ends, endings, group_changed, only_group, with_note}
+use Rattle.tr_model.specs.declared.rows.Waiting.{Waiting}
+use Rattle.tr_model.specs.Moves.{Work, changed, each, ends, endings, group_changed, only_group, with_note, without_instance}
 use Rattle.tr_table.specs.declared.groups.GroupChange.{GroupChange}
 use Rattle.tr_table.specs.declared.groups.GroupChange.TheVariants as group
 use Rattle.tr_table.specs.declared.threads.Own.{Own}
@@ -166,3 +167,22 @@ signal_is (Some y) n x s e = let (p, q) = s in some_inj (sym e ∙ ap Some q)
     some_inj : {a b : ℕ} → Some a ≡ Some b → a ≡ b
     some_inj e = ap (λ o. unwrap_or o 0) e
 signal_is None n x s e = absurd cc
+
+-- one thread that enters a stop holds one instance more at most, and one instance less waits at most
+
+pub helds_changed : (id : ℕ) (f : Thread → Thread) (ts : List Thread) → helds (changed id f ts) ≤ helds ts + 1
+helds_changed id f [] = omega arith
+helds_changed id f (t ∷ ts) = go (t.id == id) (is_some (held (f t).life)) refl (helds_changed id f ts)
+  where
+    go : (b e : Bool) → is_some (held (f t).life) ≡ e → helds (changed id f ts) ≤ helds ts + 1 → helds (if b then f t ∷ ts else t ∷ changed id f ts) ≤ (one (is_some (held t.life)) + helds ts) + 1
+    go true true e h = rw e (omega arith)
+    go true false e h = rw e (omega arith)
+    go false e q h = omega (arith, h)
+
+pub fewer_without : (n : ℕ) (ws : List Waiting) → length (without_instance n ws) ≤ length ws
+fewer_without n [] = omega arith
+fewer_without n (w ∷ ws) = go (w.instance.n == n) (fewer_without n ws)
+  where
+    go : (b : Bool) → length (without_instance n ws) ≤ length ws → length (if b then ws else w ∷ without_instance n ws) ≤ suc (length ws)
+    go true h = omega arith
+    go false h = omega (arith, h)
