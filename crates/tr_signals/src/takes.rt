@@ -9,16 +9,21 @@ ghost use Rattle.tr_model.specs.Preferred.{checked};
 ghost use Rattle.tr_model.specs.Steps.{after, takes_instance};
 ghost use Rattle.tr_model.specs.Takes.{act, act_on, deliver, did_of, take, took};
 ghost use Rattle.tr_table.specs.Changes.{tgids};
-ghost use Rattle.tr_signals.specs.Did.{Did};
 ghost use Rattle.tr_signals.specs.Shows.{Room, Shows};
+ghost use Rattle.tr_signals.specs.Takes.{Takes, die_of};
 
 use tr_group::Action;
 use tr_model::{Checked, Choice, Did, Refusal, Reply};
+use tr_pending::Instance;
 use tr_sigset::{Base, Signal};
-use tr_table::Table;
+use tr_table::{Own, Table};
+use tr_tracee::{End, Thread};
 
-use crate::log::NO_CHOICE;
+use crate::log::{Log, NO_CHOICE};
 use crate::masks::best_for;
+use crate::moves::{change_thread, deliver, hold};
+use crate::sends::{begin_death, kill_group};
+use crate::stops::initiate;
 
 // Which pending signal a thread takes, and what it does with it: signal(7), and "Signal-delivery-stop" of ptrace(2).
 
@@ -63,5 +68,68 @@ fn did_of(action: Action, signal: Signal) -> Did
             Base::Stop => Did::Stopping,
             Base::Ignored | Base::Continue => Did::Ignored,
         },
+    }
+}
+
+/// What a thread does with an instance that it takes: a tracee reports it, and others act by the action.
+fn did(table: &Table, thread: &Thread, instance: &Instance) -> Did
+    ensures { result ≡ took table.now.table thread.now instance.now }
+{
+    if thread.is_traced() {
+        Did::Reported
+    } else {
+        did_of(table.action_of(thread.group, instance.sig), instance.sig)
+    }
+}
+
+fn die_of(table: &mut Table, log: &mut Log, tgid: u32, signal: Signal)
+    requires { Room table.old log.old 2 }
+    ensures shows { (w : Work) → Shows table.old log.old w → Shows table.new log.new (die_of tgid signal w) }
+    ensures room { (n : ℕ) → Room table.old log.old ((n + 1) + 1) → Room table.new log.new n }
+    ensures tgids { tgids table.new.table ≡ tgids table.old.table }
+{
+    if signal.number() == 9 {
+        kill_group(table, log, tgid, signal);
+    } else {
+        begin_death(table, log, tgid, &End::Killed(signal), false);
+    }
+}
+
+fn act(table: &mut Table, log: &mut Log, thread: &Thread, signal: Signal, did: Did)
+    requires { Room table.old log.old 2 }
+    ensures shows { (w : Work) → Shows table.old log.old w → Shows table.new log.new (act thread.now signal false did w) }
+    ensures room { (n : ℕ) → Room table.old log.old ((n + 1) + 1) → Room table.new log.new n }
+    ensures tgids { tgids table.new.table ≡ tgids table.old.table }
+{
+    match did {
+        Did::Caught => change_thread(table, thread.id, &Own::Pausing(false)),
+        Did::Stopping => initiate(table, thread.group, signal),
+        Did::Dying => die_of(table, log, thread.group, signal),
+        Did::Ignored | Did::Reported => {}
+    }
+}
+
+fn deliver_to(table: &mut Table, log: &mut Log, thread: &Thread, instance: &Instance, did: Did)
+    requires { Room table.old log.old 2 }
+    ensures shows { (w : Work) → Shows table.old log.old w → Shows table.new log.new (act thread.now instance.now.sig false did (deliver instance.now.n w)) }
+    ensures room { (n : ℕ) → Room table.old log.old ((n + 1) + 1) → Room table.new log.new n }
+    ensures tgids { tgids table.new.table ≡ tgids table.old.table }
+{
+    deliver(table, log, instance.n);
+    act(table, log, thread, instance.sig, did);
+}
+
+fn take_instance(table: &mut Table, log: &mut Log, thread: &Thread, instance: &Instance, did: Did)
+    requires room { Room table.old log.old 2 }
+    requires did { did ≡ took table.old.table thread.now instance.now }
+    requires takes { Takes table.old.table thread.now instance.now }
+    ensures shows { (w : Work) → Shows table.old log.old w → Shows table.new log.new (take thread.now instance.now w) }
+    ensures room { (n : ℕ) → Room table.old log.old ((n + 1) + 1) → Room table.new log.new n }
+    ensures tgids { tgids table.new.table ≡ tgids table.old.table }
+{
+    if thread.is_traced() {
+        hold(table, log, thread, instance);
+    } else {
+        deliver_to(table, log, thread, instance, did);
     }
 }

@@ -1,0 +1,114 @@
+-- What a take that is due takes, and what the model makes of it.
+use Rattle.std.proofs.Common.{◌≡◌, ◌==◌, ◌&&◌, ◌∙◌, ℕ, List, [], ◌∷◌, Bool, true, false, not, if◌then◌else◌, Option, Some, None, Result, Ok, Err, is_some, refl, sym, ap}
+use Rattle.std.proofs.lemmas.Bool.{eqb-true}
+use Rattle.tr_pending.specs.declared.instance.Instance.{Instance}
+use Rattle.tr_tracee.specs.declared.life.Life.{Life}
+use Rattle.tr_tracee.specs.declared.life.Life.TheVariants as life
+use Rattle.tr_tracee.specs.declared.life.Stop.TheVariants as stop
+use Rattle.tr_tracee.specs.declared.thread.Thread.{Thread}
+use Rattle.tr_tracee.specs.Lives.{is_free}
+use Rattle.tr_tracee.specs.Stops.{may_enter}
+use Rattle.tr_tracee.specs.Threads.{has_mark}
+use Rattle.tr_model.specs.declared.checked.Checked.{Checked}
+use Rattle.tr_model.specs.declared.checked.Checked.TheVariants.{Due, Quiet}
+use Rattle.tr_model.specs.declared.events.Choice.{Choice}
+use Rattle.tr_model.specs.declared.events.Event.TheVariants.{Take}
+use Rattle.tr_model.specs.declared.replies.Refusal.{Refusal}
+use Rattle.tr_model.specs.declared.replies.Refusal.TheVariants.{NotRunning, Busy}
+use Rattle.tr_model.specs.Causes.{can_take_thread, first, nothing_where, thread_then, unless, where_is}
+use Rattle.tr_model.specs.Journals.{IsSorted}
+use Rattle.tr_model.specs.Moves.{Work, at, begin, entered_now, hold, holding, instance_in, on_instance, on_thread, pulled}
+use Rattle.tr_model.specs.Preferred.{best_for, checked, quiet_or, refused_or, take_choice, taking}
+use Rattle.tr_model.specs.Steps.{takes_instance}
+use Rattle.tr_model.specs.Tables.{Table, thread_in, thread_of}
+use Rattle.tr_model.specs.Takes.{can_take, choices, numbered, take, take_numbered}
+use Rattle.tr_model.proofs.Takable.{Best, best_is_chosen}
+use Rattle.tr_signals.specs.Takes.{Takes}
+
+-- A free thread that holds an instance enters its signal-delivery-stop
+
+may_free : (l : Life) → is_free l ≡ true → may_enter l ≡ true
+may_free life.Free e = refl
+may_free life.Stopped e = cc
+may_free (life.InStop s) e = cc
+may_free life.Listening e = cc
+may_free (life.Leaving e told) f = cc
+may_free (life.Dead e) f = cc
+may_free life.Execing e = cc
+
+pub hold_is : (w : Work) (t : Thread) (i : Instance) → Takes w.table t i → hold t.id i.n w ≡ entered_now (stop.Signal i false) t (pulled i w)
+hold_is w t i k =
+    ap (λ o. on_thread o (λ t. on_instance (instance_in w.table.waiting i.n) (holding t)) w) k.there
+    ∙ (ap (λ o. on_instance o (holding t) w) k.waits ∙ rw (k.free, may_free t.life k.free) refl)
+
+-- What is due
+
+pub record IsDue (T : Table) (id n : ℕ) : Type 0 where
+  pub thread : Thread
+  pub instance : Instance
+  pub there : thread_of T id ≡ Some thread
+  pub free : is_free thread.life ≡ true
+  pub best : best_for T thread ≡ Some instance
+  pub number : instance.n ≡ n
+
+abbrev answer : Table → Option Thread → Result Checked Refusal
+answer T o = refused_or (first (thread_then o (λ t. unless (is_free t.life) NotRunning ∷ where_is (has_mark t) Busy ∷ []))) (quiet_or (nothing_where (not (can_take_thread T o))) (take_choice T o))
+
+chosen : Result Checked Refusal → Option ℕ
+chosen (Ok (Due c)) = c.instance
+chosen (Ok (Quiet r)) = None
+chosen (Err why) = None
+
+none_some : (n : ℕ) → None ≡ Some n → ⊥
+none_some n e = cc
+
+some_same : (m n : ℕ) → Some m ≡ Some n → m ≡ n
+some_same m n e = cc
+
+pub is_due : (T : Table) (a id n : ℕ) → checked T a (Take id) ≡ Ok (Due (takes_instance n)) → IsDue T id n
+unfolding chosen
+is_due T a id n e = go (thread_of T id) refl e
+  where
+    with_best : (t : Thread) → thread_of T id ≡ Some t → is_free t.life ≡ true → (o : Option Instance) → best_for T t ≡ o → (b : Bool) → quiet_or (nothing_where (not b)) (taking o) ≡ Ok (Due (takes_instance n)) → IsDue T id n
+    with_best t f g None h true q = absurd (none_some n (ap chosen q))
+    with_best t f g None h false q = absurd (none_some n (ap chosen q))
+    with_best t f g (Some i) h true q = record { thread = t; instance = i; there = f; free = g; best = h; number = some_same i.n n (ap chosen q) }
+    with_best t f g (Some i) h false q = absurd (none_some n (ap chosen q))
+
+    with_thread : (t : Thread) → thread_of T id ≡ Some t → (b m : Bool) → is_free t.life ≡ b → refused_or (first (unless b NotRunning ∷ where_is m Busy ∷ [])) (quiet_or (nothing_where (not (can_take T t))) (taking (best_for T t))) ≡ Ok (Due (takes_instance n)) → IsDue T id n
+    with_thread t f true false g q = with_best t f g (best_for T t) refl (can_take T t) q
+    with_thread t f true true g q = absurd (none_some n (ap chosen q))
+    with_thread t f false m g q = absurd (none_some n (ap chosen q))
+
+    go : (o : Option Thread) → thread_of T id ≡ o → answer T o ≡ Ok (Due (takes_instance n)) → IsDue T id n
+    go None f q = absurd (none_some n (ap chosen q))
+    go (Some t) f q = with_thread t f (is_free t.life) (has_mark t) refl q
+
+-- the thread that is found by an id has it
+id_found : (id : ℕ) (ts : List Thread) (t : Thread) → thread_in ts id ≡ Some t → t.id ≡ id
+id_found id [] t e = absurd (none e)
+  where
+    none : None ≡ Some t → ⊥
+    none q = cc
+id_found id (x ∷ xs) t e = go (x.id == id) refl e (id_found id xs t)
+  where
+    go : (b : Bool) → (x.id == id) ≡ b → (if b then Some x else thread_in xs id) ≡ Some t → (thread_in xs id ≡ Some t → t.id ≡ id) → t.id ≡ id
+    go true h q r = let same : x ≡ t = cc in ap (λ z. z.id) (sym same) ∙ eqb-true x.id id h
+    go false h q r = r q
+
+-- What the model makes of it
+
+pub record Took (T : Table) (id n : ℕ) (t : Thread) (i : Instance) : Type 0 where
+  pub takes : Takes T t i
+  pub does : at id (take_numbered n) (begin T) ≡ take t i (begin T)
+  pub best : Best T t i
+
+pub took_is : (T : Table) (id n : ℕ) → IsSorted T.waiting → (d : IsDue T id n) → Took T id n d.thread d.instance
+took_is T id n s d =
+    let b = best_is_chosen T d.thread d.instance s d.best in
+    let c : numbered n (choices T d.thread) ≡ Some d.instance = ap (λ k. numbered k (choices T d.thread)) (sym d.number) ∙ b.chosen in
+    record {
+      takes = record { there = ap (thread_of T) (id_found id T.threads d.thread d.there) ∙ d.there; free = d.free; waits = b.waits };
+      does = ap (λ o. on_thread o (take_numbered n) (begin T)) d.there ∙ ap (λ o. on_instance o (take d.thread) (begin T)) c;
+      best = b;
+    }
