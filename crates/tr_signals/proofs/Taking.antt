@@ -1,5 +1,5 @@
 -- What a take that is due takes, and what the model makes of it.
-use Rattle.std.proofs.Common.{◌≡◌, ◌==◌, ◌&&◌, ◌∙◌, ℕ, List, [], ◌∷◌, Bool, true, false, not, if◌then◌else◌, Option, Some, None, Result, Ok, Err, is_some, refl, sym, ap}
+use Rattle.std.proofs.Common.{◌≡◌, ◌==◌, ◌&&◌, ◌∙◌, ℕ, List, [], ◌∷◌, Bool, true, false, not, if◌then◌else◌, Option, Some, None, Result, Ok, Err, is_some, refl, sym, ap, subst}
 use Rattle.std.proofs.lemmas.Bool.{eqb-true}
 use Rattle.tr_pending.specs.declared.instance.Instance.{Instance}
 use Rattle.tr_tracee.specs.declared.life.Life.{Life}
@@ -15,15 +15,17 @@ use Rattle.tr_model.specs.declared.events.Choice.{Choice}
 use Rattle.tr_model.specs.declared.events.Event.TheVariants.{Take}
 use Rattle.tr_model.specs.declared.replies.Refusal.{Refusal}
 use Rattle.tr_model.specs.declared.replies.Refusal.TheVariants.{NotRunning, Busy}
+use Rattle.tr_model.specs.declared.rows.Target.TheVariants as target
+use Rattle.tr_pending.specs.Waiting.{best_of}
 use Rattle.tr_model.specs.Causes.{can_take_thread, first, nothing_where, thread_then, unless, where_is}
-use Rattle.tr_model.specs.Journals.{IsSorted}
+use Rattle.tr_model.specs.Journals.{IsSorted, taken_by}
 use Rattle.tr_model.specs.Moves.{Work, at, begin, entered_now, hold, holding, instance_in, on_instance, on_thread, pulled}
 use Rattle.tr_model.specs.Preferred.{best_for, checked, quiet_or, refused_or, take_choice, taking}
 use Rattle.tr_model.specs.Steps.{takes_instance}
-use Rattle.tr_model.specs.Tables.{Table, thread_in, thread_of}
+use Rattle.tr_model.specs.Tables.{Table, queue, thread_in, thread_of}
 use Rattle.tr_model.specs.Takes.{can_take, choices, numbered, take, take_numbered}
 use Rattle.tr_model.proofs.Takable.{Best, best_is_chosen}
-use Rattle.tr_signals.specs.Takes.{Takes}
+use Rattle.tr_signals.specs.Takes.{Takes, queue_of, taken_from}
 
 -- A free thread that holds an instance enters its signal-delivery-stop
 
@@ -101,14 +103,29 @@ id_found id (x ∷ xs) t e = go (x.id == id) refl e (id_found id xs t)
 pub record Took (T : Table) (id n : ℕ) (t : Thread) (i : Instance) : Type 0 where
   pub takes : Takes T t i
   pub does : at id (take_numbered n) (begin T) ≡ take t i (begin T)
-  pub best : Best T t i
+  pub queue : queue_of (taken_by T (thread_of T id) n) ≡ Some (taken_from (best_of t.mask (queue T (target.Thread t.id))) t)
 
-pub took_is : (T : Table) (id n : ℕ) → IsSorted T.waiting → (d : IsDue T id n) → Took T id n d.thread d.instance
+took_is : (T : Table) (id n : ℕ) → IsSorted T.waiting → (d : IsDue T id n) → Took T id n d.thread d.instance
 took_is T id n s d =
     let b = best_is_chosen T d.thread d.instance s d.best in
     let c : numbered n (choices T d.thread) ≡ Some d.instance = ap (λ k. numbered k (choices T d.thread)) (sym d.number) ∙ b.chosen in
     record {
       takes = record { there = ap (thread_of T) (id_found id T.threads d.thread d.there) ∙ d.there; free = d.free; waits = b.waits };
       does = ap (λ o. on_thread o (take_numbered n) (begin T)) d.there ∙ ap (λ o. on_instance o (take d.thread) (begin T)) c;
-      best = b;
+      queue = ap (λ o. queue_of (taken_by T o n)) d.there ∙ (ap (λ k. queue_of (taken_by T (Some d.thread) k)) (sym d.number) ∙ ap queue_of b.taken);
     }
+
+pub waits_there : (T : Table) (id n : ℕ) → IsSorted T.waiting → (d : IsDue T id n) → instance_in T.waiting n ≡ Some d.instance
+waits_there T id n s d = ap (instance_in T.waiting) (sym d.number) ∙ (best_is_chosen T d.thread d.instance s d.best).waits
+
+pub took_of : (T : Table) (id n : ℕ) (t : Thread) (i : Instance) → IsSorted T.waiting → IsDue T id n → thread_of T id ≡ Some t → instance_in T.waiting n ≡ Some i → Took T id n t i
+took_of T id n t i s d e f =
+    let p : d.thread ≡ t = one_thread d.thread t (sym d.there ∙ e) in
+    let q : d.instance ≡ i = one_instance d.instance i (sym (waits_there T id n s d) ∙ f) in
+    subst (λ z. Took T id n z i) p (subst (λ z. Took T id n d.thread z) q (took_is T id n s d))
+  where
+    one_thread : (a b : Thread) → Some a ≡ Some b → a ≡ b
+    one_thread a b h = cc
+
+    one_instance : (a b : Instance) → Some a ≡ Some b → a ≡ b
+    one_instance a b h = cc

@@ -1,5 +1,5 @@
 pub mod Shows
-pub mod Did
+pub mod Makes
 pub mod Targets
 pub mod Kills
 pub mod Takes

@@ -5,7 +5,7 @@ ghost use Rattle.tr_model.specs.Journals.{taken};
 ghost use Rattle.tr_model.specs.Preferred.{checked};
 ghost use Rattle.tr_model.specs.Steps.{after, fate_in, no_choice};
 ghost use Rattle.tr_table.specs.Changes.{tgids};
-ghost use Rattle.tr_signals.specs.Did.{Did};
+ghost use Rattle.tr_signals.specs.Makes.{Makes};
 ghost use Rattle.tr_signals.specs.Kills.{is_over_limit};
 
 use std::alloc::{AllocError, Global};
@@ -61,7 +61,7 @@ pub fn kill(table: &mut Table, alloc: Global, actor: u32, tgid: u32, sig: u8) ->
     requires due { checked table.old.table actor (Kill tgid sig) ≡ Ok (Due no_choice) }
     requires accepted { table.old.table.accepted + (length (tgids table.old.table) + 3) < 2 ^ 64 }
     requires raised { table.old.table.raised + (length (tgids table.old.table) + 3) < 2 ^ 64 }
-    ensures did { IfOk result (λ m. Did m table.new.table (after table.old.table (record { actor = actor; event = Kill tgid sig; choice = no_choice }))) }
+    ensures did { IfOk result (λ m. Makes m table.new.table (after table.old.table (record { actor = actor; event = Kill tgid sig; choice = no_choice }))) }
     ensures taken_from { IfOk result (λ m. m.taken_from ≡ None) }
     ensures err { OnErr result (table.new.table ≡ table.old.table) }
 {

@@ -12,4 +12,4 @@ mod takes;
 pub use kills::{check_kill, kill};
 pub use log::{Log, Made};
 pub use masks::{check_mask, mask};
-pub use takes::check_take;
+pub use takes::{check_take, take};

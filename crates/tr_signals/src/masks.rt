@@ -6,7 +6,7 @@ ghost use Rattle.tr_model.specs.Preferred.{best_for, checked};
 ghost use Rattle.tr_model.specs.Steps.{after, no_choice};
 ghost use Rattle.tr_model.specs.Takes.{can_take};
 ghost use Rattle.tr_table.specs.Changes.{tgids};
-ghost use Rattle.tr_signals.specs.Did.{Did};
+ghost use Rattle.tr_signals.specs.Makes.{Makes};
 
 use std::alloc::{AllocError, Global};
 use tr_model::{Checked, Refusal, Reply, Target};
@@ -72,7 +72,7 @@ pub fn mask(table: &mut Table, alloc: Global, actor: u32, tid: u32, set: SigSet)
     requires due { checked table.old.table actor (Mask tid set) ≡ Ok (Due no_choice) }
     requires accepted { table.old.table.accepted + length (tgids table.old.table) < 2 ^ 64 }
     requires raised { table.old.table.raised + length (tgids table.old.table) < 2 ^ 64 }
-    ensures did { IfOk result (λ m. Did m table.new.table (after table.old.table (record { actor = actor; event = Mask tid set; choice = no_choice }))) }
+    ensures did { IfOk result (λ m. Makes m table.new.table (after table.old.table (record { actor = actor; event = Mask tid set; choice = no_choice }))) }
     ensures taken_from { IfOk result (λ m. m.taken_from ≡ None) }
     ensures err { OnErr result (table.new.table ≡ table.old.table) }
 {

@@ -10,20 +10,25 @@ ghost use Rattle.tr_model.specs.Steps.{after, takes_instance};
 ghost use Rattle.tr_model.specs.Takes.{act, act_on, deliver, did_of, take, took};
 ghost use Rattle.tr_table.specs.Changes.{tgids};
 ghost use Rattle.tr_signals.specs.Shows.{Room, Shows};
-ghost use Rattle.tr_signals.specs.Takes.{Takes, die_of};
+ghost use Rattle.tr_signals.specs.Makes.{Makes};
+ghost use Rattle.tr_signals.specs.Takes.{Takes, die_of, queue_of, taken_from};
+ghost use Rattle.tr_pending.specs.Waiting.{best_of};
+ghost use Rattle.tr_model.specs.Tables.{queue};
+ghost use Rattle.tr_model.specs.declared.rows.Target.TheVariants as target;
 
+use std::alloc::{AllocError, Global};
 use tr_group::Action;
-use tr_model::{Checked, Choice, Did, Refusal, Reply};
+use tr_model::{Checked, Choice, Did, Refusal, Reply, Target};
 use tr_pending::Instance;
 use tr_sigset::{Base, Signal};
 use tr_table::{Own, Table};
 use tr_tracee::{End, Thread};
 
-use crate::log::{Log, NO_CHOICE};
+use crate::log::{Log, Made, NO_CHOICE, reserve};
 use crate::masks::best_for;
 use crate::moves::{change_thread, deliver, hold};
 use crate::sends::{begin_death, kill_group};
-use crate::stops::initiate;
+use crate::stops::{initiate, settle};
 
 // Which pending signal a thread takes, and what it does with it: signal(7), and "Signal-delivery-stop" of ptrace(2).
 
@@ -132,4 +137,47 @@ fn take_instance(table: &mut Table, log: &mut Log, thread: &Thread, instance: &I
     } else {
         deliver_to(table, log, thread, instance, did);
     }
+}
+
+/// The queue that the thread takes from next, where it takes anything.
+fn from_queue(table: &Table, thread: &Thread) -> Target
+    ensures { result ≡ taken_from (best_of thread.now.mask (queue table.now.table (target.Thread thread.now.id))) thread.now }
+{
+    match table.best(Target::Thread(thread.id), thread.mask) {
+        Some(_) => Target::Thread(thread.id),
+        None => Target::Group(thread.group),
+    }
+}
+
+/// A take that is due, of the pending instance with this number: a tracee enters a signal-delivery-stop that holds it,
+/// another thread acts on it. Where memory is refused nothing has changed. What waits has to stand in order of
+/// acceptance, as it does in every table of a journal.
+pub fn take(table: &mut Table, alloc: Global, actor: u32, tid: u32, n: u64) -> Result<Made, AllocError>
+    requires due { checked table.old.table actor (Take tid) ≡ Ok (Due (takes_instance n)) }
+    requires sorted { IsSorted table.old.table.waiting }
+    requires accepted { table.old.table.accepted + (length (tgids table.old.table) + 2) < 2 ^ 64 }
+    requires raised { table.old.table.raised + (length (tgids table.old.table) + 2) < 2 ^ 64 }
+    ensures did { IfOk result (λ m. Makes m table.new.table (after table.old.table (record { actor = actor; event = Take tid; choice = takes_instance n }))) }
+    ensures taken_from { IfOk result (λ m. m.taken_from ≡ queue_of (taken table.old.table (record { actor = actor; event = Take tid; choice = takes_instance n }))) }
+    ensures err { OnErr result (table.new.table ≡ table.old.table) }
+{
+    let thread = *table.find(tid).unwrap();
+    let instance = table.instance(n).unwrap();
+    let from = from_queue(table, &thread);
+    let did = did(table, &thread, &instance);
+    let moves = table.group_count() + 2;
+    let mut log = reserve(table, alloc, moves)?;
+    take_instance(table, &mut log, &thread, &instance, did);
+    settle(table, &log);
+    Ok(Made {
+        reply: Reply::Took {
+            tid: thread.id,
+            inst: instance,
+            did,
+        },
+        ended: log.ended,
+        dying: log.dying,
+        killed: log.killed,
+        taken_from: Some(from),
+    })
 }

@@ -5,7 +5,7 @@ use Rattle.tr_model.specs.Tables.{Table}
 use Rattle.tr_signals.specs.declared.log.Made.{Made}
 
 -- the reply, the table, the instances that ended, the groups whose death began and those that a KILL was delivered to
-pub record Did (m : Made) (t : Table) (o : Outcome) : Type 0 where
+pub record Makes (m : Made) (t : Table) (o : Outcome) : Type 0 where
   pub reply : m.reply ≡ o.reply
   pub table : t ≡ o.work.table
   pub ended : m.ended.items ≡ o.work.ended
