@@ -1,6 +1,7 @@
 //! What a kernel starts from, and its table of threads, groups and pending signals.
 #![tactic(auto)]
 
+mod good;
 mod items;
 mod starts;
 mod table;
