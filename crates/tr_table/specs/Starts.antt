@@ -1,5 +1,5 @@
 -- The table that a start stands for, and which starts are good.
-use Rattle.std.specs.Prelude.{ℕ, ◌-◌, ◌==◌, nat_le, List, [], ◌∷◌, ◌++◌, length, replicate, Bool, true, false, not, ◌&&◌, None, map}
+use Rattle.std.specs.Prelude.{ℕ, ◌+◌, ◌-◌, ◌==◌, nat_le, List, [], ◌∷◌, ◌++◌, length, replicate, Bool, true, false, not, ◌&&◌, Option, None, map}
 use Rattle.std.specs.List.{list_all, list_any}
 use Rattle.tr_sigset.specs.declared.sets.SigSet.{SigSet}
 use Rattle.tr_tracee.specs.declared.life.Life.TheVariants.{Free}
