@@ -1,0 +1,5 @@
+pub mod Events
+pub mod Fields
+pub mod Groups
+pub mod Kinds
+pub mod Scenarios

@@ -1,0 +1,15 @@
+//! Scenarios: where a kernel starts from and what is done to it, read from JSON.
+#![tactic(auto)]
+
+mod events;
+mod faults;
+mod fields;
+mod groups;
+mod kinds;
+mod reading;
+mod served;
+mod steps;
+
+pub use faults::ScenarioFault;
+pub use reading::read;
+pub use steps::{Scenario, Step};
