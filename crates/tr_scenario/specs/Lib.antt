@@ -3,3 +3,4 @@ pub mod Fields
 pub mod Groups
 pub mod Kinds
 pub mod Scenarios
+pub mod Sources

@@ -8,8 +8,10 @@ mod groups;
 mod kinds;
 mod reading;
 mod served;
+mod source;
 mod steps;
 
 pub use faults::ScenarioFault;
 pub use reading::read;
+pub use source::{Got, Source, read_all};
 pub use steps::{Scenario, Step};

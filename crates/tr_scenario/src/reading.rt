@@ -1,7 +1,8 @@
-ghost use Rattle.std.specs.Prelude.{◌≡◌, ◌++◌, map, nat_le, not, IfOk, OnOk};
+ghost use Rattle.std.specs.Prelude.{◌≡◌, ◌<◌, ◌≤◌, ◌++◌, length, map, nat_le, not, IfErr, IfOk, OnOk};
 ghost use Rattle.std.specs.List.{list_any};
 ghost use Rattle.serde_json.specs.View.{view};
 ghost use Rattle.tr_table.specs.Starts.{ids_started, no_repeat};
+ghost use Rattle.tr_scenario.specs.declared.faults.ScenarioFault.TheVariants.{NoMemory};
 ghost use Rattle.tr_scenario.specs.Fields.{Gives};
 ghost use Rattle.tr_scenario.specs.Scenarios.{calls_of, has_repeats, json_of, scenario_of, whole};
 
@@ -19,7 +20,8 @@ use tr_table::{GroupStart, Start};
 /// was refused before that was met.
 #[tactic(auto, unfolding(crate::specs::Scenarios::scenario_of))]
 pub fn read(alloc: Global, bytes: &[u8]) -> Result<Scenario, ScenarioFault>
-    ensures { Gives (λ s. s) result (scenario_of bytes.now) }
+    ensures gives { Gives (λ s. s) result (scenario_of bytes.now) }
+    ensures memory { IfErr result (λ e. e ≡ NoMemory → (0 < length bytes.now) × (length bytes.now ≤ 1048576)) }
 {
     if bytes.len() > 1048576 {
         return Err(ScenarioFault::TooLarge);
@@ -31,7 +33,8 @@ pub fn read(alloc: Global, bytes: &[u8]) -> Result<Scenario, ScenarioFault>
 
 #[tactic(auto, using(crate::proofs::Texts::utf8_tests), unfolding(crate::specs::Scenarios::json_of))]
 fn json(alloc: Global, bytes: &[u8]) -> Result<Value, ScenarioFault>
-    ensures { Gives view result (json_of bytes.now) }
+    ensures gives { Gives view result (json_of bytes.now) }
+    ensures memory { IfErr result (λ e. e ≡ NoMemory → 0 < length bytes.now) }
 {
     match Value::from_slice(alloc, bytes) {
         Ok(value) => Ok(value),
