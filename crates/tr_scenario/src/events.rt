@@ -144,8 +144,14 @@ pub fn event(alloc: Global, kind: Kind, value: &Value) -> Result<Event, Scenario
             let tgid = id(value, "tgid")?;
             let untraced = flag(value, "untraced")?;
             let continued = flag(value, "continued")?;
-            let flags = WaitFlags { untraced, continued };
-            Ok(Event::StarterWait { which: which(tgid), flags })
+            let flags = WaitFlags {
+                untraced,
+                continued,
+            };
+            Ok(Event::StarterWait {
+                which: which(tgid),
+                flags,
+            })
         }
     }
 }

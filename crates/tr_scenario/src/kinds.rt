@@ -135,7 +135,20 @@ pub fn keys(kind: Kind) -> &'static [&'static str]
         Kind::Sigqueue => &["actor", "do", "times", "tgid", "sig", "value"],
         Kind::Mask => &["actor", "do", "times", "tid", "set"],
         Kind::SetAction => &["actor", "do", "times", "tid", "sig", "how"],
-        Kind::Pause | Kind::Take | Kind::Halt | Kind::Trap | Kind::Die | Kind::CloneThread | Kind::Exec | Kind::Finish | Kind::Attach | Kind::Interrupt | Kind::Listen | Kind::EventMessage | Kind::SignalInfo | Kind::Wait => &["actor", "do", "times", "tid"],
+        Kind::Pause
+        | Kind::Take
+        | Kind::Halt
+        | Kind::Trap
+        | Kind::Die
+        | Kind::CloneThread
+        | Kind::Exec
+        | Kind::Finish
+        | Kind::Attach
+        | Kind::Interrupt
+        | Kind::Listen
+        | Kind::EventMessage
+        | Kind::SignalInfo
+        | Kind::Wait => &["actor", "do", "times", "tid"],
         Kind::TakeAny => &["actor", "do", "times", "tgid"],
         Kind::Exit | Kind::ExitGroup => &["actor", "do", "times", "tid", "code"],
         Kind::Seize | Kind::SetOptions => &["actor", "do", "times", "tid", "options"],

@@ -15,3 +15,6 @@ pub use faults::ScenarioFault;
 pub use reading::read;
 pub use source::{Got, Source, read_all};
 pub use steps::{Scenario, Step};
+
+#[cfg(test)]
+mod tests;

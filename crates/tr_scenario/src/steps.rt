@@ -84,10 +84,7 @@ pub fn walk(alloc: Global, value: &Value) -> Result<Scenario, ScenarioFault>
     let entries = id(value, "entries")?;
     let groups = list(alloc, field(value, "groups")?)?;
     let steps = steps(alloc, value, "steps")?;
-    no_key_but(
-        value,
-        &["version", "limit", "entries", "groups", "steps"],
-    )?;
+    no_key_but(value, &["version", "limit", "entries", "groups", "steps"])?;
     let start = Start {
         groups,
         limit,
