@@ -4,3 +4,4 @@ pub mod Groups
 pub mod Kinds
 pub mod Scenarios
 pub mod Sources
+pub mod Told

@@ -6,6 +6,12 @@ use std::io::{ErrorKind, Read};
 #[derive(Drop)]
 pub struct FromReader<R: Read> {
     reader: R,
+    told: Told,
+}
+
+/// What a reader told so far.
+#[derive(Drop)]
+pub struct Told {
     given: History,
     ended: bool,
     failures: u64,
@@ -14,48 +20,53 @@ pub struct FromReader<R: Read> {
 
 impl<R: Read> FromReader<R> {
     ghost use Rattle.std.specs.Prelude.{◌≡◌, [], false};
+    ghost use Rattle.tr_scenario.specs.Told.{shown_of};
 
-    /// A source that has given nothing so far.
+    /// A source that was asked for nothing so far.
     pub fn new(reader: R) -> Self
-        ensures given { result.given.bytes ≡ [] }
-        ensures ended { result.ended ≡ false }
-        ensures failures { result.failures ≡ 0 }
-        ensures interruptions { result.interruptions ≡ 0 }
+        ensures { shown_of result.told ≡ record { given = []; ended = false; failures = 0; interruptions = 0 } }
     {
-        FromReader {
-            reader,
+        let told = Told {
             given: History::new(),
             ended: false,
             failures: 0,
             interruptions: 0,
-        }
+        };
+        FromReader { reader, told }
     }
 }
 
 impl<R: Read> Source for FromReader<R> {
-    ghost use Rattle.std.specs.Prelude.{◌-◌, ◌^◌, ◌<◌, length, take};
-    ghost use Rattle.std.specs.Io.KnownBytes.{Consumes};
-    ghost use Rattle.tr_scenario.specs.Sources.{Gets, Shown};
+    ghost use Rattle.std.specs.Prelude.{◌-◌, ◌^◌, ◌<◌, length};
+    ghost use Rattle.tr_scenario.specs.Sources.{Gets, Reads};
+    ghost use Rattle.tr_scenario.specs.Told.{shown_of};
 
-    ghost shown = { λ s. record { given = s.given.bytes; ended = s.ended; failures = s.failures; interruptions = s.interruptions } };
+    ghost shown = { λ s. shown_of s.told };
 
-    fn get(&mut self, room: &mut [u8]) -> Got {
+    /// Reads once. The bytes that it gives are the reader's next ones, and it tells its end only at the reader's.
+    fn get(&mut self, room: &mut [u8]) -> Got
+        requires some { 0 < length room.old }
+        requires failures { (shown_of self.old.told).failures < 2 ^ 64 - 1 }
+        requires interruptions { (shown_of self.old.told).interruptions < 2 ^ 64 - 1 }
+        ensures gets { Gets (shown_of self.old.told) (shown_of self.new.told) room.new result }
+        ensures reads { Reads (R.remaining self.old.reader) (R.remaining self.new.reader) room.new result }
+    {
         match self.reader.read(room) {
             Ok(count) => {
                 let piece = Piece {
                     bytes: &room[..count],
                 };
-                self.given = self.given.then(&piece);
-                self.ended = count == 0;
+                self.told.given = self.told.given.then(&piece);
+                self.told.ended = count == 0;
                 Got::Bytes(count)
             }
             Err(error) => {
-                self.ended = false;
+                self.told.ended = false;
                 if error.kind() == ErrorKind::Interrupted {
-                    self.interruptions += 1;
+                    self.told.interruptions += 1;
                     Got::Interrupted
                 } else {
-                    self.failures += 1;
+                    self.told.failures += 1;
                     Got::Failed
                 }
             }

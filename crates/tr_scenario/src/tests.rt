@@ -1,6 +1,7 @@
 ghost use Rattle.std.specs.Prelude.{◌≡◌, IfOk};
 
 use super::*;
+use std::io::{Error, ErrorKind, Read};
 use std::test::Fail;
 use tr_group::Action;
 use tr_model::Event;
@@ -512,4 +513,53 @@ fn a_reader_is_not_asked_forever(rt: HostRuntime) {
     let result = read_all(rt.alloc(), &mut reader);
     assert_eq!(rt; result.err(), Some(ScenarioFault::ReadFault));
     assert_eq!(rt; reader.interruptions, 1048581);
+}
+
+/// Is interrupted, gives three bytes, and then fails or ends.
+#[derive(Drop)]
+struct Pipe {
+    calls: u8,
+    breaks: bool,
+}
+
+impl Read for Pipe {
+    fn read(&mut self, room: &mut [u8]) -> std::io::Result<usize> {
+        self.calls = self.calls.wrapping_add(1);
+        match self.calls {
+            1 => Err(Error::from(ErrorKind::Interrupted)),
+            2 => {
+                let count = room.len().min(3);
+                room[..count].fill(b' ');
+                Ok(count)
+            }
+            _ if self.breaks => Err(Error::from(ErrorKind::BrokenPipe)),
+            _ => Ok(0),
+        }
+    }
+}
+
+#[test]
+fn reads_from_a_reader(rt: HostRuntime) -> Result<(), Fail> {
+    let mut reader = FromReader::new(BLOCKED.as_bytes());
+    assert_eq!(rt;
+        read_all(rt.alloc(), &mut reader)?.as_slice(),
+        BLOCKED.as_bytes()
+    );
+    let mut pipe = FromReader::new(Pipe {
+        calls: 0,
+        breaks: false,
+    });
+    assert_eq!(rt;
+        read_all(rt.alloc(), &mut pipe)?.as_slice(),
+        b"   ".as_slice()
+    );
+    let mut pipe = FromReader::new(Pipe {
+        calls: 0,
+        breaks: true,
+    });
+    assert_eq!(rt;
+        read_all(rt.alloc(), &mut pipe).err(),
+        Some(ScenarioFault::ReadFault)
+    );
+    Ok(())
 }

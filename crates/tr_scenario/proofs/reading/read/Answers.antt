@@ -1,4 +1,3 @@
-use Rattle.std.proofs.Common.{arith}
 use Rattle.serde_json.specs.View.{view}
 use Rattle.tr_scenario.proofs.Texts.{some_bytes, within}
 use Rattle.tr_scenario.proofs.reading.read.Goals as goal
