@@ -2,6 +2,7 @@
 #![tactic(auto)]
 
 mod changes;
+mod good;
 mod groups;
 mod items;
 mod members;

@@ -1,0 +1,5 @@
+pub mod Each
+pub mod Keys
+pub mod Repeats
+pub mod Texts
+pub mod Walks
