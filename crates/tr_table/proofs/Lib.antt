@@ -1,3 +1,4 @@
 pub mod Found
 pub mod Helds
 pub mod MembersKept
+pub mod SetActions

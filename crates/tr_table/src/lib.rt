@@ -5,6 +5,7 @@ mod changes;
 mod groups;
 mod items;
 mod members;
+mod opened;
 mod reads;
 mod starts;
 mod table;
