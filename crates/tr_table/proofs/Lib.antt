@@ -1,4 +1,5 @@
 pub mod Found
+pub mod GoodStarts
 pub mod Helds
 pub mod MembersKept
 pub mod SetActions

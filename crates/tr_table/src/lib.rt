@@ -18,3 +18,6 @@ pub use starts::{GroupStart, Start};
 pub use table::Table;
 pub use threads::Own;
 pub use waiting::Flush;
+
+#[cfg(test)]
+mod tests;
