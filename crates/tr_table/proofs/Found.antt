@@ -1,5 +1,5 @@
 -- What a loop finds and changes first.
-use Rattle.std.proofs.Common.{◌≡◌, ℕ, ◌+◌, ◌<◌, List, ◌∷◌, ◌++◌, length, drop, take, set, get_or, eq-eqb, if◌then◌else◌, ap, sym, ◌∙◌, arith, add-one}
+use Rattle.std.proofs.Common.{◌≡◌, ℕ, ◌+◌, ◌<◌, List, ◌∷◌, ◌++◌, length, drop, take, set, get_or, eq-eqb, if◌then◌else◌, ap, sym, ◌∙◌, add-one}
 use Rattle.std.proofs.lemmas.List.{drop_more, get_or_default, set_split}
 use Rattle.tr_tracee.specs.declared.thread.Thread.{Thread}
 use Rattle.tr_model.specs.declared.rows.Group.{Group}

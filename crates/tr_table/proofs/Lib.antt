@@ -1,4 +1,6 @@
 pub mod Found
+pub mod GoodStarts
 pub mod Helds
-pub mod MembersKept
 pub mod Ids
+pub mod MembersKept
+pub mod SetActions

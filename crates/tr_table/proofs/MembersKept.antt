@@ -1,6 +1,6 @@
 -- The threads of a group, found one after the other.
-use Rattle.std.proofs.Common.{◌≡◌, ℕ, zero, suc, ◌+◌, ◌-◌, ◌<◌, ◌≤◌, List, [], ◌∷◌, ◌++◌, length, take, drop, get_or, set, Option, Some, None, Bool, true, false, if◌then◌else◌, ◌==◌, refl, ap, sym, ◌∙◌, arith, add-one, eq-eqb, ne_eqb, append_assoc}
-use Rattle.std.proofs.lemmas.List.{drop_more, set_split, take_more}
+use Rattle.std.proofs.Common.{◌≡◌, ℕ, suc, ◌+◌, ◌<◌, List, ◌∷◌, ◌++◌, length, take, drop, get_or, Some, Bool, true, false, if◌then◌else◌, ◌==◌, refl, ap, sym, ◌∙◌, add-one, eq-eqb, ne_eqb}
+use Rattle.std.proofs.lemmas.List.{drop_more, set_split}
 use Rattle.std.proofs.lemmas.Option.{slice_get-get_or}
 use Rattle.std.specs.Prelude.{slice_get, slice_set, ◌≢◌}
 use Rattle.tr_tracee.specs.declared.thread.Thread.{Thread}

@@ -1,5 +1,5 @@
 -- The table that a start stands for, and which starts are good.
-use Rattle.std.specs.Prelude.{ℕ, ◌+◌, ◌-◌, ◌==◌, nat_le, List, [], ◌∷◌, ◌++◌, length, replicate, Bool, true, false, not, ◌&&◌, Option, None, map}
+use Rattle.std.specs.Prelude.{ℕ, ◌-◌, ◌==◌, nat_le, List, [], ◌∷◌, ◌++◌, length, replicate, Bool, true, false, not, ◌&&◌, None, map}
 use Rattle.std.specs.List.{list_all, list_any}
 use Rattle.tr_sigset.specs.declared.sets.SigSet.{SigSet}
 use Rattle.tr_tracee.specs.declared.life.Life.TheVariants.{Free}
@@ -61,6 +61,14 @@ table_of s = record {
   limit = s.limit;
   entries = s.entries;
 }
+
+-- each name fits the 15 bytes that a name has
+
+abbrev pub name_fits : GroupStart → Bool
+name_fits g = nat_le (length g.name) 15
+
+abbrev pub names_fit : Start → Bool
+names_fit s = list_all name_fits s.groups
 
 -- Good starts
 

@@ -6,6 +6,7 @@ mod good;
 mod groups;
 mod items;
 mod members;
+mod opened;
 mod reads;
 mod starts;
 mod table;
@@ -18,3 +19,6 @@ pub use starts::{GroupStart, Start};
 pub use table::Table;
 pub use threads::Own;
 pub use waiting::Flush;
+
+#[cfg(test)]
+mod tests;

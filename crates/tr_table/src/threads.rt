@@ -63,6 +63,12 @@ impl Members for Threads {
 }
 
 impl Threads {
+    pub(crate) fn from_vec(list: Vec<Thread>) -> Self
+        ensures { result ≡ list.items }
+    {
+        Threads { list }
+    }
+
     pub(crate) fn as_slice(&self) -> &[Thread]
         ensures { result.now ≡ self.now }
     {

@@ -1,4 +1,4 @@
-use Rattle.std.proofs.Common.{◌≡◌, arith, refl, ◌∙◌, ap}
+use Rattle.std.proofs.Common.{arith, ◌∙◌, ap}
 use Rattle.tr_model.specs.Moves.{group_changed, with_note}
 use Rattle.tr_table.proofs.Found.{group_found}
 use Rattle.tr_table.proofs.groups.note_first.Goals as goal

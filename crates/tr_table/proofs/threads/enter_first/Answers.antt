@@ -1,4 +1,4 @@
-use Rattle.std.proofs.Common.{◌≡◌, arith, refl, ◌∙◌, ap}
+use Rattle.std.proofs.Common.{arith, ◌∙◌, ap}
 use Rattle.tr_tracee.specs.Stops.{entered_as}
 use Rattle.tr_model.specs.Moves.{changed}
 use Rattle.tr_table.proofs.Found.{thread_changed}

@@ -1,0 +1,135 @@
+ghost use Rattle.std.specs.Prelude.{◌≡◌, ◌-◌, ◌≤◌, IfOk, IsTrue, length, map};
+ghost use Rattle.std.specs.List.{list_all};
+ghost use Rattle.tr_model.specs.Sends.{set_at};
+ghost use Rattle.tr_table.specs.Starts.{all_started, group_started, name_fits, name_of, names_fit, table_of, thread_started, threads_started, with_actions};
+
+use crate::starts::{GroupStart, Start};
+use crate::table::Table;
+use crate::threads::Threads;
+use std::alloc::{AllocError, Global};
+use std::slice;
+use tr_group::{Action, GroupStop};
+use tr_model::{Group, Name};
+use tr_sigset::{SigSet, Signal};
+use tr_tracee::{Life, Thread};
+
+// The table that a kernel starts with.
+
+impl Table {
+    /// The table of a start: its threads run untraced, and nothing waits. No name may have more than 15 bytes.
+    pub fn open(start: &Start, alloc: Global) -> Result<Table, AllocError>
+        requires { IsTrue (names_fit start.now) }
+        ensures { IfOk result (λ t. t.table ≡ table_of start.now) }
+    {
+        let threads = started_threads(start.groups.as_slice(), alloc)?;
+        let groups = started_groups(start.groups.as_slice(), alloc)?;
+        Ok(Table {
+            threads,
+            groups,
+            waiting: Vec::new(alloc),
+            accepted: 0,
+            raised: 0,
+            limit: start.limit,
+            entries: start.entries,
+        })
+    }
+}
+
+fn started_threads(groups: &[GroupStart], alloc: Global) -> Result<Threads, AllocError>
+    ensures { IfOk result (λ ts. ts ≡ all_started groups.now) }
+{
+    let mut list = Vec::new(alloc);
+    for group in groups {
+        list.extend_from_slice(threads_of(group, alloc)?.as_slice())?;
+    }
+    Ok(Threads::from_vec(list))
+}
+
+fn threads_of(group: &GroupStart, alloc: Global) -> Result<Vec<Thread>, AllocError>
+    ensures { IfOk result (λ ts. ts.items ≡ threads_started group.now) }
+{
+    let tgid = group.tgid;
+    group
+        .threads
+        .as_slice()
+        .iter()
+        .map(|(id, mask)| started_thread(tgid, *id, *mask))
+        .collect(alloc)
+}
+
+fn started_thread(tgid: u32, id: u32, mask: SigSet) -> Thread
+    ensures { result ≡ thread_started tgid (id, mask) }
+{
+    let mut thread = Thread {
+        id,
+        group: tgid,
+        mask,
+        pausing: false,
+        life: Life::Free,
+        trace: None,
+        stop_mark: false,
+        trap_mark: false,
+        note_mark: false,
+        joined: false,
+        report: None,
+    };
+    thread.set_mask(mask);
+    thread
+}
+
+fn started_groups(groups: &[GroupStart], alloc: Global) -> Result<Vec<Group>, AllocError>
+    requires { IsTrue (list_all name_fits groups.now) }
+    ensures { IfOk result (λ gs. gs.items ≡ map group_started groups.now) }
+{
+    let mut list = Vec::new(alloc);
+    for group in groups {
+        list.extend_from_slice(slice::from_ref(&started_group(group)))?;
+    }
+    Ok(list)
+}
+
+fn started_group(start: &GroupStart) -> Group
+    requires { IsTrue (name_fits start.now) }
+    ensures { result ≡ group_started start.now }
+{
+    let mut actions = [Action::Default; 64];
+    set_actions(&mut actions, start.actions.as_slice());
+    Group {
+        tgid: start.tgid,
+        name: padded(start.name.as_slice()),
+        actions,
+        group_stop: GroupStop::No,
+        end: None,
+        note: None,
+    }
+}
+
+/// The name of at most 15 bytes, padded with 0.
+fn padded(bytes: &[u8]) -> Name
+    requires { length bytes.now ≤ 15 }
+    ensures { result ≡ name_of bytes.now }
+{
+    let mut name = [0; 15];
+    name[..bytes.len()].copy_from_slice(bytes);
+    Name {
+        bytes: name,
+        len: bytes.len() as u8,
+    }
+}
+
+fn set_actions(actions: &mut [Action; 64], listed: &[(Signal, Action)])
+    ensures { actions.new ≡ with_actions actions.old listed.now }
+{
+    for (signal, action) in listed {
+        set_action(actions, *signal, *action);
+    }
+}
+
+#[tactic(auto, using(crate::proofs::SetActions::set_at_place, crate::proofs::SetActions::length_set_at))]
+fn set_action(actions: &mut [Action; 64], signal: Signal, action: Action)
+    requires { length actions.old ≡ 64 }
+    ensures set { actions.new ≡ set_at (signal - 1) action actions.old }
+    ensures len { length actions.new ≡ 64 }
+{
+    actions[usize::from(signal.number() - 1)] = action;
+}
