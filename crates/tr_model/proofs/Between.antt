@@ -1,46 +1,20 @@
 -- The law of restarts, by the reports that were consumed.
-use Rattle.std.proofs.Common.{◌≡◌, ◌≢◌, ℕ, zero, suc, ◌+◌, ◌<◌, ◌≤◌, ℤ, List, [], ◌∷◌, ◌++◌, true, false, Some, None, Option, refl, sym, ap, ◌∙◌, map, flat_map, filter, Bool, not, ◌&&◌, ◌||◌, ◌==◌, ◌⊎◌, inl, inr, if◌then◌else◌, is_some, arith, cond, nat_le, nat_lt, true≢false, add-one, append-nil, append_assoc, subst, ⊎_elim}
-use Rattle.std.proofs.lemmas.Bool.{cases_lt, or_right, ltb-false, eqb-false, eqb-true, and_parts, and_from, cases_eq, ne_eqb, eq-eqb}
-use Rattle.tr_pending.specs.declared.instance.Info.{Info}
-use Rattle.tr_pending.specs.declared.instance.Instance.{Instance}
-use Rattle.tr_tracee.specs.declared.life.Life.{Life}
-use Rattle.tr_tracee.specs.declared.life.Life.TheVariants as life
-use Rattle.tr_tracee.specs.declared.thread.Report.{Report}
-use Rattle.tr_sigset.specs.declared.signals.Signal.{Signal}
-use Rattle.tr_wait.specs.declared.status.Status.{Status}
-use Rattle.tr_tracee.specs.declared.life.End.{End}
-use Rattle.tr_tracee.specs.declared.life.End.TheVariants as ending
-use Rattle.tr_wait.specs.declared.status.Status.TheVariants as status
-use Rattle.tr_tracee.specs.declared.life.Stop.{Stop}
-use Rattle.tr_tracee.specs.declared.life.Stop.TheVariants as stop
-use Rattle.tr_model.specs.declared.rows.Target.{Target}
-use Rattle.tr_model.specs.declared.rows.Target.TheVariants as target
-use Rattle.std.specs.List.{list_all}
+use Rattle.std.proofs.Common.{◌≡◌, ℕ, ◌+◌, ◌≤◌, List, [], ◌∷◌, true, false, Some, refl, sym, ap, filter, Bool, ◌==◌, ◌⊎◌, inl, inr, if◌then◌else◌, arith, subst}
+use Rattle.std.proofs.lemmas.Bool.{eqb-false, eq-eqb}
 use Rattle.tr_tracee.specs.declared.thread.Thread.{Thread}
-use Rattle.tr_tracee.specs.declared.thread.Trace.{Trace}
-use Rattle.tr_model.specs.declared.events.Choice.{Choice}
-use Rattle.tr_model.specs.declared.events.Event.{Event}
-use Rattle.tr_model.specs.declared.events.Event.TheVariants as event
 use Rattle.tr_model.specs.declared.events.Entry.{Entry}
-use Rattle.tr_model.specs.declared.fates.Fate.{Fate}
-use Rattle.tr_model.specs.declared.fates.Fate.TheVariants.{Pending, Merged, Delivered, Suppressed, Flushed}
 use Rattle.tr_model.specs.declared.replies.Reply.{Reply}
-use Rattle.tr_model.proofs.Every.{each_map, each_weaker, each-append, each_filter, each_found, each_changed, each_dropped, is_in-append}
+use Rattle.tr_model.proofs.Every.{each_weaker}
 use Rattle.tr_model.proofs.Ids.{Distinct, has_id, moves-distinct}
 use Rattle.tr_model.proofs.Spoken.{Speaks, Spoken, moves-spoken, silent}
 use Rattle.tr_model.proofs.Restart.{WaitsFor, restart_between}
 use Rattle.tr_model.proofs.Reports.{found_in, member_filter, each_member, Member}
-use Rattle.tr_model.proofs.Kept.{act_on-kept, does-kept, Calm, Tame, CalmGroup, Kept, any, calm_throughout, calm_broken, calm_broken_by_exec, calm_restarted, calm_listening, calm_group, without_note, tame_only, tame_released, tame_told_nothing, tracer_is, always-kept, settle-kept, itself}
-use Rattle.tr_model.proofs.OneFate.{waits, one, Sound, born_past, born_small, replay_sound, start_sound}
-use Rattle.tr_model.proofs.Measures.{total, total-append, total_changed, total_dropped, total_same, total_less, total_filter, total_removed, may_enter_holds, free_may, dead_holds, execing_holds}
-use Rattle.tr_model.specs.declared.rows.Waiting.{Waiting}
-use Rattle.tr_model.specs.declared.rows.Group.{Group}
-use Rattle.tr_model.specs.declared.fates.Ending.{Ending}
+use Rattle.tr_model.proofs.Kept.{always-kept}
+use Rattle.tr_model.proofs.OneFate.{one}
+use Rattle.tr_model.proofs.Measures.{total}
 use Rattle.tr_model.specs.Journals.{Each, IsIn, Taken}
 use Rattle.tr_model.specs.Laws.{PassesOn}
-use Rattle.tr_model.specs.Moves.{Raise, Work}
 use Rattle.tr_model.specs.Tables.{Table}
-use Rattle.tr_tracee.specs.Lives.{held}
 use Rattle.tr_model.specs.Journals
 use Rattle.tr_model.specs.Laws
 use Rattle.tr_model.specs.Requests

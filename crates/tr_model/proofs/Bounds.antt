@@ -1,5 +1,5 @@
 -- How many signals an entry accepts, how many reports it raises, and how many threads it adds.
-use Rattle.std.proofs.Common.{◌≡◌, ℕ, zero, suc, ◌+◌, ◌<◌, ◌≤◌, List, [], ◌∷◌, ◌++◌, length, true, false, Some, None, Option, refl, sym, subst, ap, ◌∙◌, Bool, not, ◌&&◌, ◌||◌, ◌==◌, if◌then◌else◌, map, filter, cond, arith, length-append, is_some, nat_le, ◌⊎◌, inl, inr}
+use Rattle.std.proofs.Common.{◌≡◌, ℕ, suc, ◌+◌, ◌<◌, ◌≤◌, List, [], ◌∷◌, ◌++◌, length, true, false, Some, None, Option, refl, sym, subst, ap, Bool, not, ◌&&◌, ◌||◌, ◌==◌, if◌then◌else◌, map, filter, cond, arith, length-append, nat_le}
 use Rattle.std.proofs.lemmas.Bool.{eq-eqb}
 use Rattle.std.proofs.lemmas.Bool.Decides.{nat_tests}
 use Rattle.tr_pending.specs.declared.instance.Info.{Info}
@@ -27,11 +27,10 @@ use Rattle.tr_model.specs.declared.events.Entry.{Entry}
 use Rattle.tr_model.specs.declared.events.Event.{Event}
 use Rattle.tr_model.specs.declared.events.Event.TheVariants as event
 use Rattle.tr_model.specs.declared.fates.Fate.{Fate}
-use Rattle.tr_model.specs.declared.fates.Fate.TheVariants.{Pending, Merged, Delivered, Suppressed, Flushed}
+use Rattle.tr_model.specs.declared.fates.Fate.TheVariants.{Merged, Delivered, Suppressed, Flushed}
 use Rattle.tr_model.specs.declared.replies.Did.{Did}
 use Rattle.tr_model.specs.declared.replies.Did.TheVariants as did
-use Rattle.tr_model.specs.declared.replies.Refusal.{Refusal}
-use Rattle.tr_model.specs.declared.replies.Refusal.TheVariants.{Srch, Again, Busy, NotRunning}
+use Rattle.tr_model.specs.declared.replies.Refusal.TheVariants.{Again, Busy, NotRunning}
 use Rattle.tr_model.specs.declared.replies.Reply.{Reply}
 use Rattle.tr_model.specs.declared.rows.Group.{Group}
 use Rattle.tr_model.specs.declared.rows.Target.{Target}

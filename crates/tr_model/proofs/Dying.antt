@@ -1,30 +1,19 @@
 -- After a KILL only dying threads are left.
-use Rattle.std.proofs.Common.{◌≡◌, ℕ, zero, suc, ◌+◌, ◌<◌, ◌≤◌, ℤ, List, [], ◌∷◌, ◌++◌, true, false, Some, None, Option, refl, sym, ap, ◌∙◌, map, flat_map, filter, Bool, not, ◌&&◌, ◌||◌, ◌==◌, ◌⊎◌, inl, inr, if◌then◌else◌, is_some, arith, cond, nat_le, nat_lt, true≢false, add-one, append-nil, append_assoc, subst, ⊎_elim}
-use Rattle.std.proofs.lemmas.Bool.{eqb-false, eqb-true, and_parts, cases_eq, ne_eqb, eq-eqb}
-use Rattle.tr_pending.specs.declared.instance.Info.{Info}
+use Rattle.std.proofs.Common.{◌≡◌, ℕ, List, [], ◌∷◌, ◌++◌, true, false, Some, None, Option, refl, sym, ◌∙◌, map, Bool, not, ◌&&◌, ◌==◌, ◌⊎◌, inl, inr, if◌then◌else◌, true≢false, append-nil, append_assoc, subst}
+use Rattle.std.proofs.lemmas.Bool.{eqb-false, and_parts}
 use Rattle.tr_pending.specs.declared.instance.Instance.{Instance}
 use Rattle.tr_tracee.specs.declared.life.Life.{Life}
 use Rattle.tr_tracee.specs.declared.life.Life.TheVariants as life
-use Rattle.tr_tracee.specs.declared.thread.Report.{Report}
-use Rattle.tr_sigset.specs.declared.signals.Signal.{Signal}
-use Rattle.tr_wait.specs.declared.status.Status.{Status}
 use Rattle.tr_tracee.specs.declared.life.End.{End}
 use Rattle.tr_tracee.specs.declared.life.End.TheVariants as ending
-use Rattle.tr_wait.specs.declared.status.Status.TheVariants as status
 use Rattle.tr_tracee.specs.declared.life.Stop.{Stop}
 use Rattle.tr_tracee.specs.declared.life.Stop.TheVariants as stop
-use Rattle.tr_model.specs.declared.rows.Target.{Target}
 use Rattle.tr_tracee.specs.declared.thread.Thread.{Thread}
 use Rattle.tr_model.specs.declared.events.Entry.{Entry}
-use Rattle.tr_model.specs.declared.fates.Fate.{Fate}
-use Rattle.tr_model.specs.declared.fates.Fate.TheVariants.{Pending, Merged, Delivered, Suppressed, Flushed}
 use Rattle.tr_model.specs.declared.replies.Reply.{Reply}
-use Rattle.tr_model.proofs.Every.{each_map, each_weaker, each-append, each_filter, each_found, each_changed, each_dropped, is_in-append}
-use Rattle.tr_model.proofs.Kept.{Calm, Tame, CalmGroup, Kept, any, any_of, always-kept, calm_throughout, calm_broken, calm_broken_by_exec, calm_restarted, calm_listening, itself}
-use Rattle.tr_model.proofs.Measures.{total, total-append, total_changed, total_dropped, total_same, total_removed, may_enter_holds, free_may, dead_holds, execing_holds}
-use Rattle.tr_model.specs.declared.rows.Waiting.{Waiting}
-use Rattle.tr_model.specs.declared.rows.Group.{Group}
-use Rattle.tr_model.specs.declared.fates.Ending.{Ending}
+use Rattle.tr_model.proofs.Every.{each_map, each-append, each_filter, each_found, each_changed, each_dropped, is_in-append}
+use Rattle.tr_model.proofs.Kept.{Calm, Kept, any, any_of, always-kept, calm_throughout, calm_broken, calm_broken_by_exec, calm_restarted, calm_listening, itself}
+use Rattle.tr_model.proofs.Measures.{free_may}
 use Rattle.tr_model.specs.Journals.{Each, IsIn}
 use Rattle.tr_model.specs.Laws.{OnlyDying}
 use Rattle.tr_model.specs.Moves.{Work}

@@ -1,5 +1,5 @@
 -- What holds of each thread, and what the moves on lists make of it.
-use Rattle.std.proofs.Common.{◌≡◌, ℕ, List, [], ◌∷◌, ◌++◌, true, false, Some, None, Option, refl, sym, ap, ◌∙◌, map, filter, Bool, not, ◌&&◌, ◌==◌, ◌⊎◌, inl, inr, if◌then◌else◌, cond, subst}
+use Rattle.std.proofs.Common.{◌≡◌, ℕ, List, [], ◌∷◌, ◌++◌, true, false, Some, None, sym, map, filter, Bool, ◌==◌, ◌⊎◌, inl, inr, if◌then◌else◌, cond, subst}
 use Rattle.tr_tracee.specs.declared.thread.Thread.{Thread}
 use Rattle.tr_model.specs.Journals.{Each, IsIn}
 use Rattle.tr_model.specs.Moves

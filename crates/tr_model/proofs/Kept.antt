@@ -1,5 +1,5 @@
 -- What every small move keeps, every step keeps.
-use Rattle.std.proofs.Common.{◌≡◌, ℕ, ◌+◌, ℤ, List, [], ◌∷◌, ◌++◌, true, false, Some, None, Option, refl, map, Bool, not, ◌&&◌, ◌||◌, ◌==◌, ◌⊎◌, inl, inr, sym, true≢false, ap, ◌∙◌, if◌then◌else◌, is_some}
+use Rattle.std.proofs.Common.{◌≡◌, ℕ, List, [], ◌∷◌, true, false, Some, None, Option, refl, map, Bool, not, ◌==◌, ◌⊎◌, inl, inr, sym, true≢false, ap, ◌∙◌, if◌then◌else◌, is_some}
 use Rattle.std.proofs.lemmas.Bool.{or_left, or_right, eqb-true, and_parts}
 use Rattle.tr_group.specs.declared.stops.Action.{Action}
 use Rattle.tr_pending.specs.declared.instance.Info.{Info}
@@ -15,7 +15,6 @@ use Rattle.tr_wait.specs.declared.status.Status.{Status}
 use Rattle.tr_wait.specs.declared.status.Status.TheVariants as status
 use Rattle.tr_tracee.specs.declared.life.Stop.{Stop}
 use Rattle.tr_tracee.specs.declared.life.Stop.TheVariants as stop
-use Rattle.tr_wait.specs.declared.status.StopSig.TheVariants as stop_sig
 use Rattle.tr_model.specs.declared.rows.Target.{Target}
 use Rattle.tr_model.specs.declared.rows.Target.TheVariants as target
 use Rattle.tr_tracee.specs.declared.thread.Thread.{Thread}
@@ -37,7 +36,6 @@ use Rattle.tr_model.specs.Deaths
 use Rattle.tr_model.specs.Ends
 use Rattle.tr_model.specs.Execs
 use Rattle.tr_model.specs.GroupStops
-use Rattle.tr_model.specs.Journals
 use Rattle.tr_tracee.specs.Lives
 use Rattle.tr_tracee.specs.Marks
 use Rattle.tr_model.specs.Requests

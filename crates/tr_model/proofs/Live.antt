@@ -1,10 +1,9 @@
 -- What an entry ended isn't pending.
-use Rattle.std.proofs.Common.{◌≡◌, ℕ, List, [], ◌∷◌, ◌++◌, true, false, Some, None, Option, refl, sym, subst, ap, ◌∙◌, Bool, not, ◌&&◌, ◌==◌, if◌then◌else◌, map, filter, true≢false}
+use Rattle.std.proofs.Common.{◌≡◌, ℕ, List, [], ◌∷◌, ◌++◌, true, false, Some, None, Option, refl, sym, subst, ap, ◌∙◌, Bool, ◌==◌, if◌then◌else◌, map, filter, true≢false}
 use Rattle.std.specs.Prelude.{flat_map}
 use Rattle.tr_pending.specs.declared.instance.Instance.{Instance}
 use Rattle.tr_tracee.specs.declared.life.End.{End}
 use Rattle.tr_tracee.specs.declared.life.End.TheVariants as end
-use Rattle.tr_tracee.specs.declared.life.Life.{Life}
 use Rattle.tr_tracee.specs.declared.life.Stop.{Stop}
 use Rattle.tr_tracee.specs.declared.life.Stop.TheVariants as stop
 use Rattle.tr_tracee.specs.declared.thread.Thread.{Thread}
@@ -15,7 +14,7 @@ use Rattle.tr_tracee.specs.Ends as TraceeEnds
 use Rattle.tr_model.specs.declared.events.Entry.{Entry}
 use Rattle.tr_model.specs.declared.fates.Ending.{Ending}
 use Rattle.tr_model.specs.declared.fates.Fate.{Fate}
-use Rattle.tr_model.specs.declared.fates.Fate.TheVariants.{Pending, Merged, Delivered, Suppressed, Flushed}
+use Rattle.tr_model.specs.declared.fates.Fate.TheVariants.{Pending, Flushed}
 use Rattle.tr_model.specs.declared.replies.Reply.{Reply}
 use Rattle.tr_model.specs.declared.rows.Waiting.{Waiting}
 use Rattle.tr_model.specs.Deaths

@@ -1,28 +1,20 @@
 -- Each accepted number waits, is held, or was ended: once.
-use Rattle.std.proofs.Common.{◌≡◌, ℕ, zero, suc, ◌+◌, ◌<◌, ◌≤◌, ℤ, List, [], ◌∷◌, ◌++◌, true, false, Some, None, Option, refl, sym, ap, ◌∙◌, map, flat_map, filter, Bool, not, ◌&&◌, ◌||◌, ◌==◌, ◌⊎◌, inl, inr, if◌then◌else◌, is_some, arith, cond, nat_le, nat_lt, true≢false, add-one, append-nil, append_assoc, subst, ⊎_elim}
+use Rattle.std.proofs.Common.{◌≡◌, ℕ, zero, suc, ◌+◌, ◌<◌, ◌≤◌, List, [], ◌∷◌, ◌++◌, true, false, Some, None, Option, refl, sym, ap, ◌∙◌, map, flat_map, filter, Bool, not, ◌&&◌, ◌==◌, ◌⊎◌, inl, inr, if◌then◌else◌, arith, cond, true≢false, add-one, append-nil, append_assoc, subst, ⊎_elim}
 use Rattle.std.proofs.lemmas.Bool.{cases_lt, eqb-true, and_parts, cases_eq, ne_eqb, eq-eqb}
-use Rattle.tr_pending.specs.declared.instance.Info.{Info}
 use Rattle.tr_pending.specs.declared.instance.Instance.{Instance}
-use Rattle.tr_tracee.specs.declared.life.Life.{Life}
 use Rattle.tr_tracee.specs.declared.life.Life.TheVariants as life
-use Rattle.tr_tracee.specs.declared.thread.Report.{Report}
-use Rattle.tr_sigset.specs.declared.signals.Signal.{Signal}
-use Rattle.tr_wait.specs.declared.status.Status.{Status}
 use Rattle.tr_tracee.specs.declared.life.End.{End}
 use Rattle.tr_tracee.specs.declared.life.End.TheVariants as ending
-use Rattle.tr_wait.specs.declared.status.Status.TheVariants as status
 use Rattle.tr_tracee.specs.declared.life.Stop.{Stop}
 use Rattle.tr_tracee.specs.declared.life.Stop.TheVariants as stop
-use Rattle.tr_model.specs.declared.rows.Target.{Target}
 use Rattle.tr_tracee.specs.declared.thread.Thread.{Thread}
 use Rattle.tr_model.specs.declared.events.Entry.{Entry}
 use Rattle.tr_model.specs.declared.fates.Fate.{Fate}
-use Rattle.tr_model.specs.declared.fates.Fate.TheVariants.{Pending, Merged, Delivered, Suppressed, Flushed}
+use Rattle.tr_model.specs.declared.fates.Fate.TheVariants.{Flushed}
 use Rattle.tr_model.specs.declared.replies.Reply.{Reply}
-use Rattle.tr_model.proofs.Kept.{Calm, Tame, CalmGroup, Kept, any, any_of, always-kept, calm_throughout, calm_broken, calm_broken_by_exec, calm_restarted, calm_listening, itself}
+use Rattle.tr_model.proofs.Kept.{Calm, Tame, Kept, any, any_of, always-kept, calm_throughout, calm_broken, calm_broken_by_exec, calm_restarted, calm_listening, itself}
 use Rattle.tr_model.proofs.Measures.{total, total-append, total_changed, total_dropped, total_same, total_removed, may_enter_holds, free_may, dead_holds, execing_holds}
 use Rattle.tr_model.specs.declared.rows.Waiting.{Waiting}
-use Rattle.tr_model.specs.declared.rows.Group.{Group}
 use Rattle.tr_model.specs.declared.fates.Ending.{Ending}
 use Rattle.tr_model.specs.Moves.{Work}
 use Rattle.tr_model.specs.Tables.{Table}

@@ -1,5 +1,5 @@
 -- What waits stays in order of acceptance.
-use Rattle.std.proofs.Common.{◌+◌, ℕ, List, [], ◌∷◌, Bool, true, false, Option, Some, None, if◌then◌else◌, refl, sym, subst, arith}
+use Rattle.std.proofs.Common.{◌+◌, ℕ, Bool, true, false, Option, Some, None, if◌then◌else◌, refl, sym, subst, arith}
 use Rattle.tr_pending.specs.declared.instance.Info.{Info}
 use Rattle.tr_pending.specs.declared.instance.Instance.{Instance}
 use Rattle.tr_wait.specs.declared.status.Status.{Status}

@@ -1,14 +1,10 @@
 -- What a kernel leans on: ids, numbers and reports of a table that a journal leads to.
-use Rattle.std.proofs.Common.{◌≡◌, ℕ, zero, suc, ◌+◌, ◌<◌, ◌≤◌, List, [], ◌∷◌, ◌++◌, true, false, Some, None, Option, refl, sym, subst, ap, ◌∙◌, Bool, ◌==◌, ◌⊎◌, inl, inr, if◌then◌else◌, arith, map, filter, not}
+use Rattle.std.proofs.Common.{◌≡◌, ℕ, ◌+◌, ◌<◌, ◌≤◌, List, [], ◌∷◌, ◌++◌, true, false, Some, None, Option, refl, ap, Bool, ◌==◌, ◌⊎◌, inl, inr, if◌then◌else◌, arith}
 use Rattle.std.proofs.lemmas.Bool.{cases_lt, eq-eqb}
 use Rattle.tr_tracee.specs.declared.thread.Report.{Report}
 use Rattle.tr_tracee.specs.declared.thread.Thread.{Thread}
 use Rattle.tr_tracee.specs.Threads
 use Rattle.tr_model.specs.declared.events.Entry.{Entry}
-use Rattle.tr_model.specs.declared.fates.Ending.{Ending}
-use Rattle.tr_model.specs.declared.fates.Fate.{Fate}
-use Rattle.tr_model.specs.declared.fates.Fate.TheVariants.{Pending, Merged, Delivered, Suppressed, Flushed}
-use Rattle.tr_model.specs.declared.replies.Reply.{Reply}
 use Rattle.tr_model.specs.declared.rows.Group.{Group}
 use Rattle.tr_model.specs.Journals
 use Rattle.tr_model.specs.Journals.{Each, EachGroup, IsIn, occurs}

@@ -195,10 +195,10 @@ can_take_best T t = go (is_ready_to_take t) refl
         let own = queue T (target.Thread t.id) in
         let shared = queue T (target.Group t.group) in
         let h : not (is_none_left (choices_in (unblocked t.mask own) ++ choices_in (unblocked t.mask shared))) ≡ is_some (or_other (best_of t.mask own) (best_of t.mask shared)) =
-            ap not (none_left_append (choices_in (unblocked t.mask own)) (choices_in (unblocked t.mask shared)))
-            ∙ (ap (λ b. not (b && is_none_left (choices_in (unblocked t.mask shared)))) (left_where_best t.mask own)
-            ∙ (ap (λ b. not (not (is_some (best_of t.mask own)) && b)) (left_where_best t.mask shared)
-            ∙ either_some (best_of t.mask own) (best_of t.mask shared))) in
+        ap not (none_left_append (choices_in (unblocked t.mask own)) (choices_in (unblocked t.mask shared)))
+        ∙ (ap (λ b. not (b && is_none_left (choices_in (unblocked t.mask shared)))) (left_where_best t.mask own)
+        ∙ (ap (λ b. not (not (is_some (best_of t.mask own)) && b)) (left_where_best t.mask shared)
+        ∙ either_some (best_of t.mask own) (best_of t.mask shared))) in
         rw e h
 
 -- What is best for a thread is the choice of its number, and waits

@@ -1,5 +1,5 @@
 -- How threads and groups end: _exit(2), exit_group(2), "Death under ptrace" of ptrace(2).
-use Rattle.std.specs.Prelude.{ℕ, ◌%◌, ◌==◌, Bool, true, false, Option, Some, None, if◌then◌else◌}
+use Rattle.std.specs.Prelude.{ℕ, ◌%◌, ◌==◌, false, Option, Some, None, if◌then◌else◌}
 use Rattle.tr_wait.specs.Words.{word}
 use Rattle.tr_tracee.specs.declared.life.End.{End}
 use Rattle.tr_tracee.specs.declared.life.End.TheVariants.{Exited}

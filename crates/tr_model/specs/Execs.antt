@@ -1,5 +1,5 @@
 -- clone(2) and execve(2): "execve(2) under ptrace" of ptrace(2).
-use Rattle.std.specs.Prelude.{ℕ, pos, Bool, not, ◌&&◌, Option, if◌then◌else◌, map, is_some}
+use Rattle.std.specs.Prelude.{ℕ, pos, not, ◌&&◌, if◌then◌else◌, map, is_some}
 use Rattle.tr_tracee.specs.declared.life.End.TheVariants.{Exited}
 use Rattle.tr_tracee.specs.declared.life.Stop.TheVariants as stop
 use Rattle.tr_tracee.specs.declared.thread.Thread.{Thread}
@@ -10,7 +10,7 @@ use Rattle.tr_model.specs.declared.fates.Fate.TheVariants.{Flushed}
 use Rattle.tr_model.specs.declared.rows.Group.{Group}
 use Rattle.tr_model.specs.declared.rows.Target.TheVariants as target
 use Rattle.tr_model.specs.Sends.{info, send}
-use Rattle.tr_model.specs.Tables.{Table, others_dead, stop_in_effect}
+use Rattle.tr_model.specs.Tables.{others_dead, stop_in_effect}
 use Rattle.tr_model.specs.Moves.{Work, alter, at, become, enqueue, enter, only_group, regroup, spawn, take_place, when}
 
 -- Clone

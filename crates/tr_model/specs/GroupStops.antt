@@ -1,13 +1,12 @@
 -- Group-stops: "Group-stop" of ptrace(2), and what SIGCONT does to one.
-use Rattle.std.specs.Prelude.{ℕ, List, Bool, not, ◌&&◌, Option, Some, None, map, is_some}
-use Rattle.tr_wait.specs.declared.status.Status.{Status}
+use Rattle.std.specs.Prelude.{ℕ, not, ◌&&◌, Option, Some, None, map, is_some}
 use Rattle.tr_wait.specs.declared.status.Status.TheVariants as status
 use Rattle.tr_tracee.specs.Marks.{continued, marked, noted}
 use Rattle.tr_tracee.specs.Threads.{throughout}
 use Rattle.tr_group.specs.declared.stops.GroupStop.TheVariants.{No}
 use Rattle.tr_group.specs.GroupStops.{begun, completed, is_complete, is_stopping}
 use Rattle.tr_model.specs.declared.rows.Group.{Group}
-use Rattle.tr_model.specs.Tables.{Table, group_of, has_stop_mark, has_traced, stop_in_effect, stop_of}
+use Rattle.tr_model.specs.Tables.{group_of, has_stop_mark, has_traced, stop_in_effect, stop_of}
 use Rattle.tr_model.specs.Moves.{Work, alter, each, note, only_group, regroup, when}
 
 -- Beginning

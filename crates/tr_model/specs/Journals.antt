@@ -1,9 +1,7 @@
 -- Journals: replay, and what their entries ended, raised, consumed, took and killed.
-use Rattle.std.specs.Prelude.{◌≡◌, ℕ, ◌+◌, ◌<◌, ◌≤◌, zero, suc, List, [], ◌∷◌, ◌++◌, length, Bool, true, false, not, ◌&&◌, ◌==◌, nat_le, Option, Some, None, if◌then◌else◌, ◌⊎◌, slice_get}
+use Rattle.std.specs.Prelude.{◌≡◌, ℕ, ◌+◌, ◌<◌, ◌≤◌, zero, suc, List, [], ◌∷◌, ◌++◌, length, Bool, true, false, ◌&&◌, ◌==◌, nat_le, Option, Some, None, if◌then◌else◌, ◌⊎◌, slice_get}
 use Rattle.tr_pending.specs.declared.instance.Instance.{Instance}
-use Rattle.tr_tracee.specs.declared.life.Life.{Life}
 use Rattle.tr_tracee.specs.declared.life.Life.TheVariants as life
-use Rattle.tr_tracee.specs.declared.thread.Report.{Report}
 use Rattle.tr_tracee.specs.declared.thread.Thread.{Thread}
 use Rattle.tr_tracee.specs.Lives.{held}
 use Rattle.tr_group.specs.declared.stops.GroupStop.TheVariants.{No}
@@ -23,7 +21,7 @@ use Rattle.tr_model.specs.declared.rows.Waiting.{Waiting}
 use Rattle.tr_model.specs.Steps.{Step, number, work_of}
 use Rattle.tr_model.specs.Tables.{Table, thread_of}
 use Rattle.tr_model.specs.Takes.{choices_from, numbered}
-use Rattle.tr_model.specs.Moves.{Raise, Work}
+use Rattle.tr_model.specs.Moves.{Raise}
 
 -- Lists
 

@@ -1,5 +1,5 @@
 -- What becomes of an accepted signal: kill(2), tgkill(2), sigqueue(3), and signal(7).
-use Rattle.std.specs.Prelude.{ℕ, ◌-◌, zero, suc, ◌==◌, ℤ, List, [], ◌∷◌, Bool, true, false, not, ◌&&◌, Option, Some, None, if◌then◌else◌, is_some}
+use Rattle.std.specs.Prelude.{ℕ, ◌-◌, zero, suc, ◌==◌, ℤ, List, [], ◌∷◌, Bool, false, not, ◌&&◌, Option, Some, None, if◌then◌else◌}
 use Rattle.std.specs.List.{list_any}
 use Rattle.tr_sigset.specs.Sets.{has}
 use Rattle.tr_sigset.specs.Signals.{is_stop}

@@ -1,5 +1,5 @@
 -- A step: which choices the table admits, and what table and entry lead to.
-use Rattle.std.specs.Prelude.{◌≡◌, ℕ, ◌+◌, ℤ, pos, negsuc, List, [], ◌∷◌, Bool, true, false, not, ◌&&◌, ◌||◌, ◌==◌, nat_le, Option, Some, None, if◌then◌else◌, is_some, IsTrue}
+use Rattle.std.specs.Prelude.{◌≡◌, ℕ, ◌+◌, pos, negsuc, List, [], ◌∷◌, Bool, true, false, not, ◌&&◌, ◌||◌, ◌==◌, nat_le, Option, Some, None, if◌then◌else◌, is_some, IsTrue}
 use Rattle.tr_pending.specs.declared.instance.Instance.{Instance}
 use Rattle.tr_wait.specs.Words.{word}
 use Rattle.tr_tracee.specs.declared.thread.Report.{Report}

@@ -1,9 +1,8 @@
 -- The kernel's table, and what is read off it.
-use Rattle.std.specs.Prelude.{ℕ, ◌-◌, ◌==◌, List, [], ◌∷◌, Bool, true, false, ◌||◌, Option, Some, None, filter, find, map, slice_index_or, is_some}
+use Rattle.std.specs.Prelude.{ℕ, ◌-◌, ◌==◌, List, [], Bool, false, ◌||◌, Option, Some, None, filter, find, map, slice_index_or, is_some}
 use Rattle.std.specs.List.{list_any, list_all}
 use Rattle.tr_sigset.specs.declared.signals.Signal.{Signal}
 use Rattle.tr_pending.specs.declared.instance.Instance.{Instance}
-use Rattle.tr_wait.specs.declared.status.Status.{Status}
 use Rattle.tr_tracee.specs.declared.life.End.{End}
 use Rattle.tr_tracee.specs.declared.thread.Thread.{Thread}
 use Rattle.tr_tracee.specs.Lives.{is_dead, is_live}
