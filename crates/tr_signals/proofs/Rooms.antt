@@ -1,5 +1,5 @@
 -- How many threads hold an instance after a move, and the ids of the groups after one.
-use Rattle.std.proofs.Common.{◌≡◌, ℕ, zero, suc, ◌+◌, ◌<◌, ◌≤◌, List, [], ◌∷◌, ◌++◌, length, drop, take, get_or, Option, Some, None, Bool, true, false, is_some, if◌then◌else◌, ◌==◌, map, flat_map, filter, not, refl, ap, sym, ◌∙◌, arith, length-append, unwrap_or}
+use Rattle.std.proofs.Common.{◌≡◌, ℕ, suc, ◌+◌, ◌<◌, ◌≤◌, List, [], ◌∷◌, ◌++◌, length, take, get_or, Option, Some, None, Bool, true, false, is_some, if◌then◌else◌, ◌==◌, map, flat_map, filter, not, refl, ap, sym, ◌∙◌, arith, length-append, unwrap_or}
 use Rattle.std.proofs.lemmas.List.{take_more}
 use Rattle.std.specs.Option.{SomeIff}
 use Rattle.tr_sigset.specs.Signals.{IsSignal}
@@ -12,7 +12,7 @@ use Rattle.tr_tracee.specs.declared.life.Stop.TheVariants as stop
 use Rattle.tr_tracee.specs.declared.thread.Thread.{Thread}
 use Rattle.tr_tracee.specs.Ends.{broken}
 use Rattle.tr_tracee.specs.Lives.{held}
-use Rattle.tr_tracee.specs.Marks.{cont_noted, cont_noted_life, continued, continued_life, marked, noted}
+use Rattle.tr_tracee.specs.Marks.{cont_noted, cont_noted_life, continued_life, marked}
 use Rattle.tr_tracee.specs.Threads.{only, throughout}
 use Rattle.tr_group.specs.Members.{continued_by}
 use Rattle.tr_model.specs.declared.fates.Fate.{Fate}
@@ -125,7 +125,7 @@ filter_halves p [] = refl
 filter_halves p (x ∷ xs) = go (p x) (filter_halves p xs)
   where
     go : (b : Bool) → length (filter p xs) + length (filter (λ y. not (p y)) xs) ≡ length xs
-      → length (if b then x ∷ filter p xs else filter p xs) + length (if not b then x ∷ filter (λ y. not (p y)) xs else filter (λ y. not (p y)) xs) ≡ suc (length xs)
+        → length (if b then x ∷ filter p xs else filter p xs) + length (if not b then x ∷ filter (λ y. not (p y)) xs else filter (λ y. not (p y)) xs) ≡ suc (length xs)
     go true ih = omega (arith, ih)
     go false ih = omega (arith, ih)
 

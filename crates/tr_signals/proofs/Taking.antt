@@ -1,5 +1,5 @@
 -- What a take that is due takes, and what the model makes of it.
-use Rattle.std.proofs.Common.{◌≡◌, ◌==◌, ◌&&◌, ◌∙◌, ℕ, List, [], ◌∷◌, Bool, true, false, not, if◌then◌else◌, Option, Some, None, Result, Ok, Err, is_some, refl, sym, ap, subst}
+use Rattle.std.proofs.Common.{◌≡◌, ◌==◌, ◌∙◌, ℕ, List, [], ◌∷◌, Bool, true, false, not, if◌then◌else◌, Option, Some, None, Result, Ok, Err, refl, sym, ap, subst}
 use Rattle.std.proofs.lemmas.Bool.{eqb-true}
 use Rattle.tr_pending.specs.declared.instance.Instance.{Instance}
 use Rattle.tr_tracee.specs.declared.life.Life.{Life}
@@ -11,7 +11,6 @@ use Rattle.tr_tracee.specs.Stops.{may_enter}
 use Rattle.tr_tracee.specs.Threads.{has_mark}
 use Rattle.tr_model.specs.declared.checked.Checked.{Checked}
 use Rattle.tr_model.specs.declared.checked.Checked.TheVariants.{Due, Quiet}
-use Rattle.tr_model.specs.declared.events.Choice.{Choice}
 use Rattle.tr_model.specs.declared.events.Event.TheVariants.{Take}
 use Rattle.tr_model.specs.declared.replies.Refusal.{Refusal}
 use Rattle.tr_model.specs.declared.replies.Refusal.TheVariants.{NotRunning, Busy}
@@ -24,7 +23,7 @@ use Rattle.tr_model.specs.Preferred.{best_for, checked, quiet_or, refused_or, ta
 use Rattle.tr_model.specs.Steps.{takes_instance}
 use Rattle.tr_model.specs.Tables.{Table, queue, thread_in, thread_of}
 use Rattle.tr_model.specs.Takes.{can_take, choices, numbered, take, take_numbered}
-use Rattle.tr_model.proofs.Takable.{Best, best_is_chosen}
+use Rattle.tr_model.proofs.Takable.{best_is_chosen}
 use Rattle.tr_signals.specs.Takes.{Takes, queue_of, taken_from}
 
 -- A free thread that holds an instance enters its signal-delivery-stop

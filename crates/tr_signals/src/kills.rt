@@ -8,15 +8,14 @@ ghost use Rattle.tr_table.specs.Changes.{tgids};
 ghost use Rattle.tr_signals.specs.Makes.{Makes};
 ghost use Rattle.tr_signals.specs.Kills.{is_over_limit};
 
+use crate::log::{Made, NO_CHOICE, reserve};
+use crate::sends::send;
+use crate::stops::settle;
 use std::alloc::{AllocError, Global};
 use tr_model::{Checked, Ending, Fate, Refusal, Reply, Target};
 use tr_pending::Info;
 use tr_sigset::Signal;
 use tr_table::Table;
-
-use crate::log::{Made, NO_CHOICE, reserve};
-use crate::sends::send;
-use crate::stops::settle;
 
 /// Whether a kill(2) of a group is refused, answered at once, or due. EINVAL comes for a signal above 64, then ESRCH
 /// where there is no such group, then EAGAIN for a real-time signal where as many wait as the queue limit says.
@@ -57,7 +56,13 @@ fn fate_in(ended: &[Ending], n: u64) -> Fate
 
 /// A kill(2) that is due: the signal is accepted as the next number, and the reply has its fate right after the step.
 /// Where memory is refused nothing has changed.
-pub fn kill(table: &mut Table, alloc: Global, actor: u32, tgid: u32, sig: u8) -> Result<Made, AllocError>
+pub fn kill(
+    table: &mut Table,
+    alloc: Global,
+    actor: u32,
+    tgid: u32,
+    sig: u8,
+) -> Result<Made, AllocError>
     requires due { checked table.old.table actor (Kill tgid sig) ≡ Ok (Due no_choice) }
     requires accepted { table.old.table.accepted + (length (tgids table.old.table) + 3) < 2 ^ 64 }
     requires raised { table.old.table.raised + (length (tgids table.old.table) + 3) < 2 ^ 64 }

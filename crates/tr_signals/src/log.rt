@@ -45,7 +45,12 @@ pub(crate) fn reserve(table: &mut Table, alloc: Global, n: usize) -> Result<Log,
     ensures same { table.new.table ≡ table.old.table }
 {
     let mut ended = Vec::new(alloc);
-    ended.reserve(table.queued().saturating_add(table.thread_count()).saturating_add(n))?;
+    ended.reserve(
+        table
+            .queued()
+            .saturating_add(table.thread_count())
+            .saturating_add(n),
+    )?;
     let mut dying = Vec::new(alloc);
     dying.reserve(n)?;
     let mut killed = Vec::new(alloc);

@@ -8,16 +8,15 @@ ghost use Rattle.tr_model.specs.Takes.{can_take};
 ghost use Rattle.tr_table.specs.Changes.{tgids};
 ghost use Rattle.tr_signals.specs.Makes.{Makes};
 
+use crate::log::{Made, NO_CHOICE, reserve};
+use crate::moves::change_thread;
+use crate::stops::settle;
 use std::alloc::{AllocError, Global};
 use tr_model::{Checked, Refusal, Reply, Target};
 use tr_pending::Instance;
 use tr_sigset::SigSet;
 use tr_table::{Own, Table};
 use tr_tracee::Thread;
-
-use crate::log::{Made, NO_CHOICE, reserve};
-use crate::moves::change_thread;
-use crate::stops::settle;
 
 /// What a thread takes next: from its own queue before the shared one, the first of the least number.
 pub(crate) fn best_for(table: &Table, thread: &Thread) -> Option<Instance>
@@ -68,7 +67,13 @@ pub fn check_mask(table: &Table, tid: u32, set: SigSet) -> Result<Checked, Refus
 
 /// A setting of a mask that is due: sigprocmask(2) with `SIG_SETMASK`. KILL and STOP stay unblocked. Where memory is
 /// refused nothing has changed.
-pub fn mask(table: &mut Table, alloc: Global, actor: u32, tid: u32, set: SigSet) -> Result<Made, AllocError>
+pub fn mask(
+    table: &mut Table,
+    alloc: Global,
+    actor: u32,
+    tid: u32,
+    set: SigSet,
+) -> Result<Made, AllocError>
     requires due { checked table.old.table actor (Mask tid set) ≡ Ok (Due no_choice) }
     requires accepted { table.old.table.accepted + length (tgids table.old.table) < 2 ^ 64 }
     requires raised { table.old.table.raised + length (tgids table.old.table) < 2 ^ 64 }

@@ -12,14 +12,13 @@ ghost use Rattle.tr_table.specs.Changes.{flushes, own, regrouped, tgids};
 ghost use Rattle.tr_signals.specs.Shows.{Room, Shows};
 ghost use Rattle.tr_signals.specs.declared.log.Log.{Log};
 
+use crate::log::Log;
 use tr_model::{Ending, Fate, Target};
 use tr_pending::{Info, Instance};
 use tr_sigset::Signal;
 use tr_table::{Flush, GroupChange, Own, Table};
 use tr_tracee::{End, Stop, Thread};
 use tr_wait::Status;
-
-use crate::log::Log;
 
 // The small moves of a step: each makes of table and log what the model's move makes of the step under way. None takes
 // memory.

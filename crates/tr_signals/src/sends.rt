@@ -14,15 +14,16 @@ ghost use Rattle.tr_signals.specs.Shows.{Room, Shows};
 ghost use Rattle.tr_signals.specs.Targets.{is_live_target};
 ghost use Rattle.tr_signals.specs.declared.log.Log.{Log};
 
+use crate::log::Log;
+use crate::moves::{
+    accept_as, change_group, enqueue, flush, leave, note_cont, tell_dying, tell_killed,
+};
+use crate::stops::continue_all;
 use tr_model::{Fate, Target};
 use tr_pending::Info;
 use tr_sigset::Signal;
 use tr_table::{Flush, GroupChange, Table};
 use tr_tracee::End;
-
-use crate::log::Log;
-use crate::moves::{accept_as, change_group, enqueue, flush, leave, note_cont, tell_dying, tell_killed};
-use crate::stops::continue_all;
 
 // What becomes of an accepted signal: kill(2), tgkill(2), sigqueue(3) and signal(7), by six rules in their order.
 
@@ -142,7 +143,9 @@ fn is_open(table: &Table, signal: Signal, target: Target) -> bool
 {
     match target {
         Target::Thread(id) => {
-            table.find(id).is_some_and(|t| t.trace.is_none() && !t.mask.has(signal))
+            table
+                .find(id)
+                .is_some_and(|t| t.trace.is_none() && !t.mask.has(signal))
         }
         Target::Group(tgid) => !table.has_traced(tgid) && !table.some_blocks(tgid, signal),
     }

@@ -8,12 +8,11 @@ ghost use Rattle.tr_table.specs.Changes.{tgids};
 ghost use Rattle.tr_signals.specs.Shows.{Room, Shows};
 ghost use Rattle.tr_signals.specs.declared.log.Log.{Log};
 
+use crate::log::Log;
+use crate::moves::{change_group, continue_threads, mark_all, note};
 use tr_sigset::Signal;
 use tr_table::{GroupChange, Table};
 use tr_wait::Status;
-
-use crate::log::Log;
-use crate::moves::{change_group, continue_threads, mark_all, note};
 
 // Group-stops: "Group-stop" of ptrace(2).
 

@@ -16,6 +16,11 @@ ghost use Rattle.tr_pending.specs.Waiting.{best_of};
 ghost use Rattle.tr_model.specs.Tables.{queue};
 ghost use Rattle.tr_model.specs.declared.rows.Target.TheVariants as target;
 
+use crate::log::{Log, Made, NO_CHOICE, reserve};
+use crate::masks::best_for;
+use crate::moves::{change_thread, deliver, hold};
+use crate::sends::{begin_death, kill_group};
+use crate::stops::{initiate, settle};
 use std::alloc::{AllocError, Global};
 use tr_group::Action;
 use tr_model::{Checked, Choice, Did, Refusal, Reply, Target};
@@ -23,12 +28,6 @@ use tr_pending::Instance;
 use tr_sigset::{Base, Signal};
 use tr_table::{Own, Table};
 use tr_tracee::{End, Thread};
-
-use crate::log::{Log, Made, NO_CHOICE, reserve};
-use crate::masks::best_for;
-use crate::moves::{change_thread, deliver, hold};
-use crate::sends::{begin_death, kill_group};
-use crate::stops::{initiate, settle};
 
 // Which pending signal a thread takes, and what it does with it: signal(7), and "Signal-delivery-stop" of ptrace(2).
 
@@ -152,7 +151,13 @@ fn from_queue(table: &Table, thread: &Thread) -> Target
 /// A take that is due, of the pending instance with this number: a tracee enters a signal-delivery-stop that holds it,
 /// another thread acts on it. Where memory is refused nothing has changed. What waits has to stand in order of
 /// acceptance, as it does in every table of a journal.
-pub fn take(table: &mut Table, alloc: Global, actor: u32, tid: u32, n: u64) -> Result<Made, AllocError>
+pub fn take(
+    table: &mut Table,
+    alloc: Global,
+    actor: u32,
+    tid: u32,
+    n: u64,
+) -> Result<Made, AllocError>
     requires due { checked table.old.table actor (Take tid) ≡ Ok (Due (takes_instance n)) }
     requires sorted { IsSorted table.old.table.waiting }
     requires accepted { table.old.table.accepted + (length (tgids table.old.table) + 2) < 2 ^ 64 }

@@ -1,4 +1,4 @@
-use Rattle.std.proofs.Common.{◌≡◌, ◌+◌, ℕ, refl, sym, ap, ◌∙◌, arith, length}
+use Rattle.std.proofs.Common.{◌≡◌, ◌+◌, refl, sym, ap, ◌∙◌, arith, length}
 use Rattle.tr_model.specs.Steps.{fate_in}
 use Rattle.tr_table.specs.Changes.{tgids}
 use Rattle.tr_signals.proofs.Rooms.{signal_is}

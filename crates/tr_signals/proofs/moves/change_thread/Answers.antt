@@ -1,4 +1,4 @@
-use Rattle.std.proofs.Common.{◌≡◌, ◌+◌, ◌≤◌, ap, ◌∙◌, arith, length, vec_len, vec_capacity}
+use Rattle.std.proofs.Common.{◌≡◌, ap, ◌∙◌, arith, length}
 use Rattle.tr_table.specs.Held.{helds}
 use Rattle.tr_signals.proofs.Rooms.{helds_own}
 use Rattle.tr_signals.proofs.moves.change_thread.Goals as goal

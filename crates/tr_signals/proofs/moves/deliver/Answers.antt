@@ -1,6 +1,5 @@
-use Rattle.std.proofs.Common.{◌≡◌, ◌≤◌, ◌+◌, ◌-◌, ap, ◌∙◌, arith, length, vec_len, vec_capacity, filter, not, Bool, ◌==◌}
+use Rattle.std.proofs.Common.{◌≡◌, ap, arith, length, filter, not, Bool, ◌==◌}
 use Rattle.tr_model.specs.declared.rows.Waiting.{Waiting}
-
 use Rattle.tr_table.specs.Held.{helds}
 use Rattle.tr_signals.proofs.Rooms.{filter_halves}
 use Rattle.tr_signals.proofs.moves.deliver.Goals as goal

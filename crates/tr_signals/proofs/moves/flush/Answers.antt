@@ -1,4 +1,4 @@
-use Rattle.std.proofs.Common.{◌≡◌, ◌≤◌, ◌+◌, ◌-◌, ap, ◌∙◌, arith, length, vec_len, vec_capacity, filter, not, Bool}
+use Rattle.std.proofs.Common.{◌≡◌, ap, arith, length, filter, not, Bool}
 use Rattle.tr_model.specs.declared.rows.Waiting.{Waiting}
 use Rattle.tr_table.specs.Changes.{is_flushed}
 use Rattle.tr_table.specs.Held.{helds}

@@ -1,6 +1,5 @@
-use Rattle.std.proofs.Common.{◌≡◌, ◌≤◌, ◌+◌, ap, arith, length, vec_len, vec_capacity, map, flat_map}
+use Rattle.std.proofs.Common.{◌≡◌, ap, arith, length, map}
 use Rattle.tr_model.specs.declared.fates.Fate.TheVariants.{Flushed}
-use Rattle.tr_model.specs.Moves.{ends}
 use Rattle.tr_tracee.specs.Ends.{broken}
 use Rattle.tr_tracee.specs.Threads.{throughout}
 use Rattle.tr_table.specs.Held.{helds}

@@ -1,4 +1,4 @@
-use Rattle.std.proofs.Common.{◌≡◌, ◌+◌, ◌-◌, ◌<◌, ℕ, refl, sym, ap, ◌∙◌, arith, true, false, length, take, get_or, take_all}
+use Rattle.std.proofs.Common.{sym, ◌∙◌}
 use Rattle.tr_signals.proofs.Rooms.{room_less}
 use Rattle.tr_signals.proofs.sends.send_kill.Goals as goal
 

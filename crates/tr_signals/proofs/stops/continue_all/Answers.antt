@@ -1,4 +1,4 @@
-use Rattle.std.proofs.Common.{◌≡◌, ◌+◌, ◌-◌, ◌<◌, ℕ, refl, is_some, sym, ap, ◌∙◌, arith, true, false, length, take, get_or, take_all}
+use Rattle.std.proofs.Common.{◌≡◌, is_some, ap, ◌∙◌}
 use Rattle.tr_model.specs.Tables.{stop_in_effect}
 use Rattle.tr_signals.proofs.Continues.{ended_once}
 use Rattle.tr_signals.proofs.stops.continue_all.Goals as goal

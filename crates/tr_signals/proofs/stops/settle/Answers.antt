@@ -1,4 +1,4 @@
-use Rattle.std.proofs.Common.{◌≡◌, ◌+◌, ◌-◌, ◌<◌, ℕ, refl, sym, ap, ◌∙◌, arith, true, false, length, take, get_or, take_all}
+use Rattle.std.proofs.Common.{◌≡◌, ◌+◌, ◌-◌, ◌<◌, ap, ◌∙◌, arith, length, take, get_or, take_all}
 use Rattle.tr_model.specs.GroupStops.{settle_group}
 use Rattle.tr_table.specs.Changes.{tgids}
 use Rattle.tr_signals.proofs.Rooms.{each_more}
@@ -11,11 +11,12 @@ loop-i-preserved c =
     let v = c.loop-i.invariant in
     let h : i < length (tgids T) = let x = v.3 in omega arith in
     let e : c.tgid_at-tgid.result ≡ get_or (tgids T) i 0 = c.tgid_at-tgid.ensures ∙ ap (λ xs. get_or xs i 0) v.1 in
-    let k : length (tgids T) - i ≡ (length (tgids T) - (i + 1)) + 1 = omega arith in
-    ((λ l w s. let b = c.settle_group.ensures.shows l _ (v.0 l w s) in let d = (rw e at b) in rw (each_more (tgids T) i settle_group w h) d),
-     c.settle_group.ensures.tgids ∙ v.1,
-     c.settle_group.ensures.room _ _ (let o = v.2 in rw k at o),
-     v.3)
+    let k : length (tgids T) - i ≡ (length (tgids T) - (i + 1)) + 1 = omega arith in (
+      (λ l w s. let b = c.settle_group.ensures.shows l _ (v.0 l w s) in let d = (rw e at b) in rw (each_more (tgids T) i settle_group w h) d),
+      c.settle_group.ensures.tgids ∙ v.1,
+      c.settle_group.ensures.room _ _ (let o = v.2 in rw k at o),
+      v.3,
+    )
 
 pub returns : goal.returns
 returns c =

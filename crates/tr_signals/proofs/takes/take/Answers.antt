@@ -1,4 +1,4 @@
-use Rattle.std.proofs.Common.{◌≡◌, ◌+◌, ◌∙◌, ℕ, Some, refl, sym, ap, arith, length}
+use Rattle.std.proofs.Common.{◌≡◌, ◌+◌, ◌∙◌, Some, refl, sym, ap, arith, length}
 use Rattle.std.specs.Prelude.{option_copied}
 use Rattle.tr_model.specs.Moves.{instance_in}
 use Rattle.tr_model.specs.Tables.{thread_of}
