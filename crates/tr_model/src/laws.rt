@@ -10,7 +10,8 @@ pub fn causes_are_causes()
     ensures { CausesAreCauses }
 {}
 
-/// Where the answer is Nothing, the model admits no choice: nobody can take, and nothing is ready.
+/// Where the answer is Nothing, the model admits no choice: nobody can take, and nothing is ready. The end of a tracer
+/// without tracees, which has no choice to make, is left out.
 pub fn nothing_is_exact()
     ensures { NothingIsExact }
 {}

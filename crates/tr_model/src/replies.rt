@@ -53,7 +53,8 @@ pub enum Refusal {
     Again,
     /// ENOMEM: memory was refused.
     NoMemory,
-    /// EINVAL: a signal that isn't one, or isn't allowed here.
+    /// EINVAL: a signal that isn't one, or isn't allowed here; or no signal to tell of, at an attached tracee's
+    /// group-stop.
     Inval,
     /// The thread has a mark to serve or a signal to take first.
     Busy,

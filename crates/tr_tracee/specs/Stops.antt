@@ -44,7 +44,7 @@ told_nothing t = record t { report = None }
 
 -- Entering
 
--- a thread that isn't in a stop, nor told to leave, may enter a ptrace-stop
+-- a thread that isn't in a stop, told to leave, dead or in execve(2) may enter a ptrace-stop
 abbrev pub may_enter : Life → Bool
 may_enter life.Free = true
 may_enter life.Stopped = true
