@@ -19,6 +19,3 @@ pub use starts::{GroupStart, Start};
 pub use table::Table;
 pub use threads::Own;
 pub use waiting::Flush;
-
-#[cfg(test)]
-mod tests;
