@@ -27,7 +27,7 @@ use Rattle.tr_model.specs.Steps
 use Rattle.tr_model.specs.Tables.{Table, group_end, thread_of}
 use Rattle.tr_model.proofs.Kept.{Kept, always-kept, any, any_of, is_pending}
 
-abbrev AllLive : List Ending → Type 0
+abbrev pub AllLive : List Ending → Type 0
 AllLive [] = Unit {0}
 AllLive (e ∷ es) = (is_pending e.fate ≡ false) × AllLive es
 
@@ -103,7 +103,7 @@ moves_live = record {
   end_waiting = λ fate live p w l. more_live w (Moves.end_waiting fate p w) _ refl (waiting_live fate live (filter p w.table.waiting)) l;
 }
 
-ended_live : (T U : Table) (es : List Entry) (rs : List Reply) → Journals.Replay T es rs U → AllLive (Journals.ended_by T es)
+pub ended_live : (T U : Table) (es : List Entry) (rs : List Reply) → Journals.Replay T es rs U → AllLive (Journals.ended_by T es)
 ended_live T U [] [] r = tt
 ended_live T U [] (x ∷ rs) r = absurd r
 ended_live T U (e ∷ es) [] r = absurd r

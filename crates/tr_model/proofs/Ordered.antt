@@ -11,7 +11,7 @@ use Rattle.tr_model.specs.declared.fates.Fate.{Fate}
 use Rattle.tr_model.specs.declared.rows.Group.{Group}
 use Rattle.tr_model.specs.declared.rows.Target.{Target}
 use Rattle.tr_model.specs.declared.rows.Waiting.{Waiting}
-use Rattle.tr_model.specs.Journals.{IsSorted}
+use Rattle.tr_model.specs.Journals.{AllUpTo, IsSorted}
 use Rattle.tr_model.specs.Deaths
 use Rattle.tr_model.specs.Execs
 use Rattle.tr_model.specs.Journals.{IsStart}
@@ -23,7 +23,7 @@ use Rattle.tr_model.specs.Moves as moves
 use Rattle.tr_model.specs.Moves.{Work, at, begin, instance_in, next_instance, on_instance, on_thread}
 use Rattle.tr_model.proofs.Between.{replay_keeps}
 use Rattle.tr_model.proofs.Kept.{Kept, always-kept, any, any_of}
-use Rattle.tr_model.proofs.Sorted.{AllUpTo, sorted_filter, sorted_less, sorted_more, sorted_reaimed, up_to_filter, up_to_later, up_to_less, up_to_more, up_to_reaimed}
+use Rattle.tr_model.proofs.Sorted.{sorted_filter, sorted_less, sorted_more, sorted_reaimed, up_to_filter, up_to_later, up_to_less, up_to_more, up_to_reaimed}
 
 -- what waits stands in order of acceptance, and was accepted
 pub record Ordered (w : Work) : Type 0 where

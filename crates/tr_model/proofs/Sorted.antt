@@ -3,7 +3,7 @@ use Rattle.std.proofs.Common.{◌≡◌, ◌≤◌, ◌<◌, ◌+◌, ◌==◌, 
 use Rattle.std.specs.Prelude.{filter}
 use Rattle.tr_pending.specs.declared.instance.Instance.{Instance}
 use Rattle.tr_model.specs.declared.rows.Waiting.{Waiting}
-use Rattle.tr_model.specs.Journals.{AllAbove, IsSorted}
+use Rattle.tr_model.specs.Journals.{AllAbove, AllUpTo, IsSorted}
 use Rattle.tr_model.specs.Moves.{reaimed, without_instance}
 
 -- Filters
@@ -27,10 +27,6 @@ sorted_less m [] h = tt
 sorted_less m (q ∷ qs) h = elim (q.instance.n == m) as (λ b. IsSorted (if b then qs else q ∷ without_instance m qs)) [ true ↦ h.1 | false ↦ (above_less m q.instance.n qs h.0, sorted_less m qs h.1) ]
 
 -- One more, with a greater number than all
-
-abbrev pub AllUpTo : ℕ → List Waiting → Type 0
-AllUpTo n [] = Unit {0}
-AllUpTo n (q ∷ qs) = (q.instance.n ≤ n) × AllUpTo n qs
 
 above_more : (n : ℕ) (qs : List Waiting) (q : Waiting) → AllAbove n qs → n < q.instance.n → AllAbove n (qs ++ q ∷ [])
 above_more n [] q h k = (k, tt)

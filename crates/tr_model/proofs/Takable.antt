@@ -17,7 +17,7 @@ use Rattle.tr_model.specs.Journals.{IsSorted, taken_by}
 use Rattle.tr_model.specs.Moves.{instance_in}
 use Rattle.tr_model.specs.Preferred.{best_for, or_other}
 use Rattle.tr_model.specs.Tables.{Table, queue, same_target}
-use Rattle.tr_model.specs.Takes.{can_take, choices, choices_in, goes_before, is_none_left, numbered, unblocked}
+use Rattle.tr_model.specs.Takes.{can_take, choices, choices_in, goes_before, is_none_left, numbered, taken_from, unblocked}
 use Rattle.tr_model.proofs.Among.{Among, among_filter, among_left, among_right, filter_among}
 use Rattle.tr_model.proofs.Sorted.{InOrder, Past, in_order_filter, sorted_filter, sorted_instances}
 
@@ -255,11 +255,6 @@ numbered_is i (x ∷ xs) m u = go (x.n == i.n) refl m (λ k. numbered_is i xs k 
 instance_numbered : (n : ℕ) (ws : List Waiting) → instance_in ws n ≡ numbered n (all_instances ws)
 instance_numbered n [] = refl
 instance_numbered n (w ∷ ws) = ap (λ o. if w.instance.n == n then Some w.instance else o) (instance_numbered n ws)
-
--- the queue that it comes from
-abbrev pub taken_from : Option Instance → Thread → Target
-taken_from (Some i) t = target.Thread t.id
-taken_from None t = target.Group t.group
 
 pub record Best (T : Table) (t : Thread) (i : Instance) : Type 0 where
   pub ready : is_ready_to_take t ≡ true

@@ -57,6 +57,11 @@ abbrev pub IsSorted : List Waiting → Type 0
 IsSorted [] = Unit {0}
 IsSorted (q ∷ qs) = AllAbove q.instance.n qs × IsSorted qs
 
+-- no number that waits is above this one
+abbrev pub AllUpTo : ℕ → List Waiting → Type 0
+AllUpTo n [] = Unit {0}
+AllUpTo n (q ∷ qs) = (q.instance.n ≤ n) × AllUpTo n qs
+
 -- Starts
 
 -- runs, untraced, with nothing to serve or to tell

@@ -1,12 +1,13 @@
 -- A run of calls, each made with this product's choice.
-use Rattle.std.specs.Prelude.{ℕ, List, [], ◌∷◌, ◌++◌, length, Bool, true, false, nat_le, Option, Some, None}
+use Rattle.std.specs.Prelude.{ℕ, List, [], ◌∷◌, ◌++◌, length, Bool, true, false, nat_le, Result, Ok, Err}
+use Rattle.tr_model.specs.declared.checked.Checked.{Checked}
+use Rattle.tr_model.specs.declared.checked.Checked.TheVariants.{Quiet, Due}
 use Rattle.tr_model.specs.declared.events.Entry.{Entry}
 use Rattle.tr_model.specs.declared.events.Event.{Event}
 use Rattle.tr_model.specs.declared.replies.Refusal.{Refusal}
 use Rattle.tr_model.specs.declared.replies.Refusal.TheVariants.{JournalFull}
 use Rattle.tr_model.specs.declared.replies.Reply.{Reply}
-use Rattle.tr_model.specs.Causes.{cause_of, quiet_of}
-use Rattle.tr_model.specs.Preferred.{preferred}
+use Rattle.tr_model.specs.Preferred.{check}
 use Rattle.tr_model.specs.Steps.{after}
 use Rattle.tr_model.specs.Tables.{Table}
 
@@ -32,33 +33,35 @@ begun_at T = record { table = T; journal = []; answers = [] }
 abbrev pub answered : Answer → State → State
 answered x s = record s { answers = s.answers ++ x ∷ [] }
 
-abbrev pub entry_of : State → Call → Entry
-entry_of s c = record { actor = c.actor; event = c.event; choice = preferred s.table c.actor c.event }
-
 abbrev pub entered : State → Entry → State
 entered s e =
     let x = after s.table e in
     record { table = x.work.table; journal = s.journal ++ e ∷ []; answers = s.answers ++ Entered x.reply ∷ [] }
 
 -- a journal with as many entries as the entry limit takes no more
-abbrev pub unless_full : State → Call → Bool → State
-unless_full s c true = answered (Refused JournalFull) s
-unless_full s c false = entered s (entry_of s c)
+abbrev pub unless_full : State → Entry → Bool → State
+unless_full s e true = answered (Refused JournalFull) s
+unless_full s e false = entered s e
 
-abbrev pub unless_quiet : State → Call → Option Reply → State
-unless_quiet s c (Some r) = answered (Read r) s
-unless_quiet s c None = unless_full s c (nat_le s.table.entries (length s.journal))
+-- what comes of a call that a check finds so
+abbrev pub made : State → Call → Result Checked Refusal → State
+made s c (Err why) = answered (Refused why) s
+made s c (Ok (Quiet r)) = answered (Read r) s
+made s c (Ok (Due x)) = unless_full s (record { actor = c.actor; event = c.event; choice = x }) (nat_le s.table.entries (length s.journal))
 
-abbrev pub unless_refused : State → Call → Option Refusal → State
-unless_refused s c (Some why) = answered (Refused why) s
-unless_refused s c None = unless_quiet s c (quiet_of s.table c.actor c.event)
+-- a check of the model's, or one that refuses more
+abbrev pub Check : Type 0
+Check = Table → ℕ → Event → Result Checked Refusal
+
+abbrev pub call_by : Check → State → Call → State
+call_by check s c = made s c (check s.table c.actor c.event)
+
+abbrev pub calls_by : Check → State → List Call → State
+calls_by check s [] = s
+calls_by check s (c ∷ cs) = calls_by check (call_by check s c) cs
 
 abbrev pub call : State → Call → State
-call s c = unless_refused s c (cause_of s.table c.actor c.event)
-
-abbrev pub calls : State → List Call → State
-calls s [] = s
-calls s (c ∷ cs) = calls (call s c) cs
+call = call_by check
 
 abbrev pub run : Table → List Call → State
-run T cs = calls (begun_at T) cs
+run T cs = calls_by check (begun_at T) cs

@@ -100,3 +100,8 @@ take t i w = if is_traced t then hold t.id i.n w else act_on t i.sig false (deli
 
 abbrev pub take_numbered : ℕ → Thread → Work → Work
 take_numbered n t w = on_instance (numbered n (choices w.table t)) (take t) w
+
+-- the queue of what is taken: its own queue where something in it can be taken, else the shared one
+abbrev pub taken_from : Option Instance → Thread → Target
+taken_from (Some i) t = target.Thread t.id
+taken_from None t = target.Group t.group

@@ -1,5 +1,11 @@
+pub mod CallTexts
 pub mod Each
+pub mod Halts
 pub mod Keys
+pub mod Left
+pub mod Made
 pub mod Repeats
+pub mod StatusTexts
 pub mod Texts
 pub mod Walks
+pub mod Wholes

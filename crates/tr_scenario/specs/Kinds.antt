@@ -2,6 +2,8 @@
 use Rattle.std.specs.Prelude.{ℕ, List, [], ◌∷◌, Option, Result, codes, find}
 use Rattle.std.specs.Str.{bytes_eq}
 use Rattle.serde_json.specs.Data.{Data}
+use Rattle.tr_model.specs.declared.events.Event.{Event}
+use Rattle.tr_model.specs.declared.events.Event.TheVariants as event
 use Rattle.tr_scenario.specs.declared.faults.ScenarioFault.{ScenarioFault}
 use Rattle.tr_scenario.specs.declared.kinds.Kind.{Kind}
 use Rattle.tr_scenario.specs.declared.kinds.Kind.TheVariants.{Kill, Tgkill, Sigqueue, Mask, SetAction, Pause, Take, TakeAny, Halt, Trap, Die, CloneThread, Exec, Finish, Exit, ExitGroup, Attach, Seize, Interrupt, Cont, Listen, Detach, SetOptions, EventMessage, SignalInfo, TracerExit, Wait, StarterWait}
@@ -49,6 +51,40 @@ unfoldable pub kind_at : List ℕ → Data → Result Kind ScenarioFault
 kind_at key d = do
   name ← text_at key d
   needed (kind_named name)
+
+abbrev pub kind_of : Event → Kind
+kind_of (event.Kill g s) = Kill
+kind_of (event.Tgkill g id s) = Tgkill
+kind_of (event.Sigqueue g s v) = Sigqueue
+kind_of (event.Mask id set) = Mask
+kind_of (event.SetAction id s how) = SetAction
+kind_of (event.Pause id) = Pause
+kind_of (event.Take id) = Take
+kind_of (event.TakeAny g) = TakeAny
+kind_of (event.Halt id) = Halt
+kind_of (event.Trap id) = Trap
+kind_of (event.Die id) = Die
+kind_of (event.CloneThread id) = CloneThread
+kind_of (event.Exec id) = Exec
+kind_of (event.Finish id) = Finish
+kind_of (event.Exit id code) = Exit
+kind_of (event.ExitGroup id code) = ExitGroup
+kind_of (event.Attach id) = Attach
+kind_of (event.Seize id o) = Seize
+kind_of (event.Interrupt id) = Interrupt
+kind_of (event.Cont id s) = Cont
+kind_of (event.Listen id) = Listen
+kind_of (event.Detach id s) = Detach
+kind_of (event.SetOptions id o) = SetOptions
+kind_of (event.EventMessage id) = EventMessage
+kind_of (event.SignalInfo id) = SignalInfo
+kind_of event.TracerExit = TracerExit
+kind_of (event.Wait which) = Wait
+kind_of (event.StarterWait which flags) = StarterWait
+
+-- an event is printed by the name that it is read by
+abbrev pub event_name : Event → List ℕ
+event_name e = kind_name (kind_of e)
 
 abbrev pub fields_of : Kind → List (List ℕ)
 fields_of Kill = codes "tgid" ∷ codes "sig" ∷ []

@@ -1,7 +1,14 @@
 pub mod Events
 pub mod Fields
 pub mod Groups
+pub mod Kernels
 pub mod Kinds
+pub mod Lines
+pub mod Printing
+pub mod Replies
+pub mod RunTexts
 pub mod Scenarios
+pub mod Serial
 pub mod Sources
 pub mod Told
+pub mod Writers

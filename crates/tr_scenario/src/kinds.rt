@@ -1,11 +1,12 @@
 ghost use Rattle.std.specs.Prelude.{◌≡◌, ◌∷◌, codes, map};
 ghost use Rattle.serde_json.specs.View.{view};
 ghost use Rattle.tr_scenario.specs.Fields.{Gives};
-ghost use Rattle.tr_scenario.specs.Kinds.{fields_of, kind_at, kind_name, kind_named};
+ghost use Rattle.tr_scenario.specs.Kinds.{event_name, fields_of, kind_at, kind_name, kind_named, kind_of};
 
 use crate::faults::ScenarioFault;
 use crate::fields::text;
 use serde_json::Value;
+use tr_model::Event;
 
 /// Which event a step is.
 #[derive(Clone, Copy, Debug, PartialEq, Eq)]
@@ -122,6 +123,48 @@ fn name(kind: Kind) -> &'static str
         Kind::TracerExit => "tracer_exit",
         Kind::Wait => "wait",
         Kind::StarterWait => "starter_wait",
+    }
+}
+
+/// The name that an event is read by and printed by.
+pub(crate) fn event_name(event: &Event) -> &'static str
+    ensures { result.now ≡ event_name event.now }
+{
+    name(kind_of(event))
+}
+
+fn kind_of(event: &Event) -> Kind
+    ensures { result ≡ kind_of event.now }
+{
+    match event {
+        Event::Kill { .. } => Kind::Kill,
+        Event::Tgkill { .. } => Kind::Tgkill,
+        Event::Sigqueue { .. } => Kind::Sigqueue,
+        Event::Mask { .. } => Kind::Mask,
+        Event::SetAction { .. } => Kind::SetAction,
+        Event::Pause { .. } => Kind::Pause,
+        Event::Take { .. } => Kind::Take,
+        Event::TakeAny { .. } => Kind::TakeAny,
+        Event::Halt { .. } => Kind::Halt,
+        Event::Trap { .. } => Kind::Trap,
+        Event::Die { .. } => Kind::Die,
+        Event::CloneThread { .. } => Kind::CloneThread,
+        Event::Exec { .. } => Kind::Exec,
+        Event::Finish { .. } => Kind::Finish,
+        Event::Exit { .. } => Kind::Exit,
+        Event::ExitGroup { .. } => Kind::ExitGroup,
+        Event::Attach { .. } => Kind::Attach,
+        Event::Seize { .. } => Kind::Seize,
+        Event::Interrupt { .. } => Kind::Interrupt,
+        Event::Cont { .. } => Kind::Cont,
+        Event::Listen { .. } => Kind::Listen,
+        Event::Detach { .. } => Kind::Detach,
+        Event::SetOptions { .. } => Kind::SetOptions,
+        Event::EventMessage { .. } => Kind::EventMessage,
+        Event::SignalInfo { .. } => Kind::SignalInfo,
+        Event::TracerExit => Kind::TracerExit,
+        Event::Wait { .. } => Kind::Wait,
+        Event::StarterWait { .. } => Kind::StarterWait,
     }
 }
 

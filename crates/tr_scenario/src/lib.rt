@@ -1,4 +1,4 @@
-//! Scenarios: where a kernel starts from and what is done to it, read from JSON.
+//! Scenarios: where a kernel starts from and what is done to it, read from JSON, and run with printed text.
 #![tactic(auto)]
 
 mod events;
@@ -7,17 +7,24 @@ mod fields;
 mod groups;
 mod history;
 mod kinds;
+mod lines;
+mod printing;
 mod readers;
 mod reading;
+mod replies;
+mod runs;
 mod served;
 mod source;
 mod steps;
+mod writers;
 
 pub use faults::ScenarioFault;
 pub use readers::FromReader;
 pub use reading::read;
+pub use runs::serial;
 pub use source::{Got, Source, read_all};
 pub use steps::{Scenario, Step};
+pub use writers::ToWriter;
 
 #[cfg(test)]
 mod tests;

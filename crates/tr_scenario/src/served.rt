@@ -22,6 +22,11 @@ fn is_served(event: &Event) -> bool
 {
     matches!(
         event,
-        Event::Kill { .. } | Event::Mask { .. } | Event::Take { .. }
+        Event::Kill { .. }
+            | Event::Tgkill { .. }
+            | Event::Sigqueue { .. }
+            | Event::Mask { .. }
+            | Event::Pause { .. }
+            | Event::Take { .. }
     )
 }

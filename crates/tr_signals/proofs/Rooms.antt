@@ -26,7 +26,7 @@ use Rattle.tr_table.specs.declared.threads.Own.TheVariants as thread
 use Rattle.tr_table.specs.Changes.{own, regrouped}
 use Rattle.tr_table.specs.Held.{helds, one}
 use Rattle.tr_table.specs.View.{View}
-use Rattle.tr_signals.specs.declared.log.Log.{Log}
+use Rattle.tr_table.specs.declared.logs.Log.{Log}
 use Rattle.tr_signals.specs.Shows.{Room}
 
 -- a change that holds what was held

@@ -22,9 +22,9 @@ use Rattle.tr_model.specs.Moves.{Work, at, begin, entered_now, hold, holding, in
 use Rattle.tr_model.specs.Preferred.{best_for, checked, quiet_or, refused_or, take_choice, taking}
 use Rattle.tr_model.specs.Steps.{takes_instance}
 use Rattle.tr_model.specs.Tables.{Table, queue, thread_in, thread_of}
-use Rattle.tr_model.specs.Takes.{can_take, choices, numbered, take, take_numbered}
+use Rattle.tr_model.specs.Takes.{can_take, choices, numbered, take, take_numbered, taken_from}
 use Rattle.tr_model.proofs.Takable.{best_is_chosen}
-use Rattle.tr_signals.specs.Takes.{Takes, queue_of, taken_from}
+use Rattle.tr_signals.specs.Takes.{Takes, queue_of}
 
 -- A free thread that holds an instance enters its signal-delivery-stop
 

@@ -1,5 +1,6 @@
 pub mod Shows
 pub mod Makes
 pub mod Targets
+pub mod Scripts
 pub mod Kills
 pub mod Takes

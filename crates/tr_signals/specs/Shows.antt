@@ -1,9 +1,10 @@
 -- What the code keeps of a step under way, and the places that it has reserved.
 use Rattle.std.specs.Prelude.{◌≡◌, ℕ, ◌+◌, ◌≤◌, ◌<◌, ◌^◌, length, vec_len, vec_capacity}
 use Rattle.tr_model.specs.Moves.{Work}
+use Rattle.tr_model.specs.Tables.{Table}
 use Rattle.tr_table.specs.Held.{helds}
 use Rattle.tr_table.specs.View.{View}
-use Rattle.tr_signals.specs.declared.log.Log.{Log}
+use Rattle.tr_table.specs.declared.logs.Log.{Log}
 
 -- the table and the log are those of the step under way
 pub record Shows (t : View) (l : Log) (w : Work) : Type 0 where
@@ -11,6 +12,10 @@ pub record Shows (t : View) (l : Log) (w : Work) : Type 0 where
   pub ended : l.ended.items ≡ w.ended
   pub dying : l.dying.items ≡ w.dying
   pub killed : l.killed.items ≡ w.killed
+
+-- n more signals and n more reports can be numbered
+abbrev pub CanNumber : Table → ℕ → Type 0
+CanNumber T n = (T.accepted + n < 2 ^ 64) × (T.raised + n < 2 ^ 64)
 
 -- There is a place for each instance that can still end, and for n moves more. What ends leaves a queue or a thread that
 -- held it, so this stays as it is while instances end.

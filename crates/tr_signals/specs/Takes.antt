@@ -5,7 +5,6 @@ use Rattle.tr_tracee.specs.declared.life.End.TheVariants.{Killed}
 use Rattle.tr_tracee.specs.declared.thread.Thread.{Thread}
 use Rattle.tr_tracee.specs.Lives.{is_free}
 use Rattle.tr_model.specs.declared.rows.Target.{Target}
-use Rattle.tr_model.specs.declared.rows.Target.TheVariants as target
 use Rattle.tr_model.specs.Deaths.{begin_death, kill_group}
 use Rattle.tr_model.specs.Moves.{Work, instance_in}
 use Rattle.tr_model.specs.Tables.{Table, thread_of}
@@ -15,11 +14,6 @@ use Rattle.tr_model.specs.Journals.{Taken}
 abbrev pub queue_of : Option Taken → Option Target
 queue_of None = None
 queue_of (Some k) = Some k.queue
-
--- its own queue where something in it can be taken, else the shared one
-abbrev pub taken_from : Option Instance → Thread → Target
-taken_from (Some i) t = target.Thread t.id
-taken_from None t = target.Group t.group
 
 -- the thread takes the instance: it is there and free, and the instance waits
 pub record Takes (T : Table) (t : Thread) (i : Instance) : Type 0 where

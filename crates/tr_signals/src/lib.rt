@@ -9,7 +9,7 @@ mod sends;
 mod stops;
 mod takes;
 
-pub use kills::{check_kill, kill};
-pub use log::{Log, Made};
-pub use masks::{check_mask, mask};
+pub use kills::{check_kill, check_sigqueue, check_tgkill, kill, sigqueue, tgkill};
+pub use log::{Made, recycle};
+pub use masks::{check_mask, check_pause, mask, pause};
 pub use takes::{check_take, take};

@@ -1,12 +1,12 @@
-ghost use Rattle.std.specs.Prelude.{◌≡◌, ◌+◌, ◌<◌, ◌^◌, ℕ, length, IfOk, OnErr, Some, None, Ok};
+ghost use Rattle.std.specs.Prelude.{◌≡◌, ℕ, IfOk, OnErr, None, Ok};
 ghost use Rattle.tr_model.specs.declared.checked.Checked.TheVariants.{Due};
-ghost use Rattle.tr_model.specs.declared.events.Event.TheVariants.{Mask};
+ghost use Rattle.tr_model.specs.declared.events.Event.TheVariants.{Mask, Pause};
 ghost use Rattle.tr_model.specs.Causes.{first, script};
 ghost use Rattle.tr_model.specs.Preferred.{best_for, checked};
 ghost use Rattle.tr_model.specs.Steps.{after, no_choice};
 ghost use Rattle.tr_model.specs.Takes.{can_take};
-ghost use Rattle.tr_table.specs.Changes.{tgids};
 ghost use Rattle.tr_signals.specs.Makes.{Makes};
+ghost use Rattle.tr_signals.specs.Scripts.{own_outcome, script_checked};
 
 use crate::log::{Made, NO_CHOICE, reserve};
 use crate::moves::change_thread;
@@ -51,10 +51,8 @@ pub(crate) fn script(table: &Table, thread: &Thread) -> Option<Refusal>
     None
 }
 
-/// Whether a thread's setting of its mask is refused or due. ESRCH comes where there is no such thread, then NotRunning
-/// and Busy as for each operation of a thread's own.
-pub fn check_mask(table: &Table, tid: u32, set: SigSet) -> Result<Checked, Refusal>
-    ensures { (actor : ℕ) → result ≡ checked table.now.table actor (Mask tid set) }
+fn check_script(table: &Table, tid: u32) -> Result<Checked, Refusal>
+    ensures { result ≡ script_checked table.now.table tid }
 {
     let Some(thread) = table.find(tid) else {
         return Err(Refusal::Srch);
@@ -65,25 +63,14 @@ pub fn check_mask(table: &Table, tid: u32, set: SigSet) -> Result<Checked, Refus
     }
 }
 
-/// A setting of a mask that is due: sigprocmask(2) with `SIG_SETMASK`. KILL and STOP stay unblocked. Where memory is
-/// refused nothing has changed.
-pub fn mask(
-    table: &mut Table,
-    alloc: Global,
-    actor: u32,
-    tid: u32,
-    set: SigSet,
-) -> Result<Made, AllocError>
-    requires due { checked table.old.table actor (Mask tid set) ≡ Ok (Due no_choice) }
-    requires accepted { table.old.table.accepted + length (tgids table.old.table) < 2 ^ 64 }
-    requires raised { table.old.table.raised + length (tgids table.old.table) < 2 ^ 64 }
-    ensures did { IfOk result (λ m. Makes m table.new.table (after table.old.table (record { actor = actor; event = Mask tid set; choice = no_choice }))) }
+/// Makes an entry that changes the record of one thread.
+fn change_own(table: &mut Table, alloc: Global, tid: u32, change: &Own) -> Result<Made, AllocError>
+    ensures did { IfOk result (λ m. Makes m table.new.table (own_outcome tid change.now table.old.table)) }
     ensures taken_from { IfOk result (λ m. m.taken_from ≡ None) }
     ensures err { OnErr result (table.new.table ≡ table.old.table) }
 {
-    let moves = table.group_count();
-    let log = reserve(table, alloc, moves)?;
-    change_thread(table, tid, &Own::Mask(set));
+    let log = reserve(table, alloc, 0)?;
+    change_thread(table, tid, change);
     settle(table, &log);
     Ok(Made {
         reply: Reply::Done,
@@ -92,4 +79,47 @@ pub fn mask(
         killed: log.killed,
         taken_from: None,
     })
+}
+
+/// Whether a thread's setting of its mask is refused or due. ESRCH comes where there is no such thread, then NotRunning
+/// and Busy as for each operation of a thread's own.
+pub fn check_mask(table: &Table, tid: u32, set: SigSet) -> Result<Checked, Refusal>
+    ensures { (actor : ℕ) → result ≡ checked table.now.table actor (Mask tid set) }
+{
+    check_script(table, tid)
+}
+
+/// A setting of a mask that is due: sigprocmask(2) with `SIG_SETMASK`. KILL and STOP stay unblocked. Where memory is
+/// refused, or the numbers are used up, nothing has changed.
+pub fn mask(
+    table: &mut Table,
+    alloc: Global,
+    actor: u32,
+    tid: u32,
+    set: SigSet,
+) -> Result<Made, AllocError>
+    requires due { checked table.old.table actor (Mask tid set) ≡ Ok (Due no_choice) }
+    ensures did { IfOk result (λ m. Makes m table.new.table (after table.old.table (record { actor = actor; event = Mask tid set; choice = no_choice }))) }
+    ensures taken_from { IfOk result (λ m. m.taken_from ≡ None) }
+    ensures err { OnErr result (table.new.table ≡ table.old.table) }
+{
+    change_own(table, alloc, tid, &Own::Mask(set))
+}
+
+/// Whether a thread's pause(2) is refused or due, as for each operation of a thread's own.
+pub fn check_pause(table: &Table, tid: u32) -> Result<Checked, Refusal>
+    ensures { (actor : ℕ) → result ≡ checked table.now.table actor (Pause tid) }
+{
+    check_script(table, tid)
+}
+
+/// A pause(2) that is due: the thread pauses until it takes a signal that it catches. Where memory is refused, or the
+/// numbers are used up, nothing has changed.
+pub fn pause(table: &mut Table, alloc: Global, actor: u32, tid: u32) -> Result<Made, AllocError>
+    requires due { checked table.old.table actor (Pause tid) ≡ Ok (Due no_choice) }
+    ensures did { IfOk result (λ m. Makes m table.new.table (after table.old.table (record { actor = actor; event = Pause tid; choice = no_choice }))) }
+    ensures taken_from { IfOk result (λ m. m.taken_from ≡ None) }
+    ensures err { OnErr result (table.new.table ≡ table.old.table) }
+{
+    change_own(table, alloc, tid, &Own::Pausing(true))
 }

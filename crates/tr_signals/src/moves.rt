@@ -10,13 +10,12 @@ ghost use Rattle.tr_tracee.specs.Threads.{only, throughout};
 ghost use Rattle.tr_group.specs.Members.{continued_by};
 ghost use Rattle.tr_table.specs.Changes.{flushes, own, regrouped, tgids};
 ghost use Rattle.tr_signals.specs.Shows.{Room, Shows};
-ghost use Rattle.tr_signals.specs.declared.log.Log.{Log};
+ghost use Rattle.tr_table.specs.declared.logs.Log.{Log};
 
-use crate::log::Log;
 use tr_model::{Ending, Fate, Target};
 use tr_pending::{Info, Instance};
 use tr_sigset::Signal;
-use tr_table::{Flush, GroupChange, Own, Table};
+use tr_table::{Flush, GroupChange, Log, Own, Table};
 use tr_tracee::{End, Stop, Thread};
 use tr_wait::Status;
 

@@ -12,9 +12,8 @@ ghost use Rattle.tr_model.specs.Tables.{all_dead, group_end, owner, queue};
 ghost use Rattle.tr_table.specs.Changes.{tgids};
 ghost use Rattle.tr_signals.specs.Shows.{Room, Shows};
 ghost use Rattle.tr_signals.specs.Targets.{is_live_target};
-ghost use Rattle.tr_signals.specs.declared.log.Log.{Log};
+ghost use Rattle.tr_table.specs.declared.logs.Log.{Log};
 
-use crate::log::Log;
 use crate::moves::{
     accept_as, change_group, enqueue, flush, leave, note_cont, tell_dying, tell_killed,
 };
@@ -22,7 +21,7 @@ use crate::stops::continue_all;
 use tr_model::{Fate, Target};
 use tr_pending::Info;
 use tr_sigset::Signal;
-use tr_table::{Flush, GroupChange, Table};
+use tr_table::{Flush, GroupChange, Log, Table};
 use tr_tracee::End;
 
 // What becomes of an accepted signal: kill(2), tgkill(2), sigqueue(3) and signal(7), by six rules in their order.

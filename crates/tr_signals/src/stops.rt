@@ -6,12 +6,11 @@ ghost use Rattle.tr_model.specs.Moves.{Work, note, only_group, regroup, when};
 ghost use Rattle.tr_model.specs.Tables.{group_of, has_stop_mark, has_traced, stop_in_effect, stop_of};
 ghost use Rattle.tr_table.specs.Changes.{tgids};
 ghost use Rattle.tr_signals.specs.Shows.{Room, Shows};
-ghost use Rattle.tr_signals.specs.declared.log.Log.{Log};
+ghost use Rattle.tr_table.specs.declared.logs.Log.{Log};
 
-use crate::log::Log;
 use crate::moves::{change_group, continue_threads, mark_all, note};
 use tr_sigset::Signal;
-use tr_table::{GroupChange, Table};
+use tr_table::{GroupChange, Log, Table};
 use tr_wait::Status;
 
 // Group-stops: "Group-stop" of ptrace(2).

@@ -1,22 +1,22 @@
-ghost use Rattle.std.specs.Prelude.{◌≡◌, ◌+◌, ◌<◌, ◌^◌, ℕ, length, IfOk, OnErr, Some, None, Ok, map, false};
+ghost use Rattle.std.specs.Prelude.{◌≡◌, ◌+◌, ℕ, IfOk, OnErr, Ok, false};
 ghost use Rattle.tr_pending.specs.declared.instance.Instance.{Instance};
 ghost use Rattle.tr_tracee.specs.declared.thread.Thread.{Thread};
 ghost use Rattle.tr_model.specs.declared.checked.Checked.TheVariants.{Due};
 ghost use Rattle.tr_model.specs.declared.events.Event.TheVariants.{Take};
-ghost use Rattle.tr_model.specs.Journals.{IsSorted, taken};
+ghost use Rattle.tr_model.specs.Journals.{taken};
 ghost use Rattle.tr_model.specs.Moves.{Work};
 ghost use Rattle.tr_model.specs.Preferred.{checked};
 ghost use Rattle.tr_model.specs.Steps.{after, takes_instance};
-ghost use Rattle.tr_model.specs.Takes.{act, act_on, deliver, did_of, take, took};
+ghost use Rattle.tr_model.specs.Takes.{act, act_on, deliver, did_of, take, taken_from, took};
 ghost use Rattle.tr_table.specs.Changes.{tgids};
 ghost use Rattle.tr_signals.specs.Shows.{Room, Shows};
 ghost use Rattle.tr_signals.specs.Makes.{Makes};
-ghost use Rattle.tr_signals.specs.Takes.{Takes, die_of, queue_of, taken_from};
+ghost use Rattle.tr_signals.specs.Takes.{Takes, die_of, queue_of};
 ghost use Rattle.tr_pending.specs.Waiting.{best_of};
 ghost use Rattle.tr_model.specs.Tables.{queue};
 ghost use Rattle.tr_model.specs.declared.rows.Target.TheVariants as target;
 
-use crate::log::{Log, Made, NO_CHOICE, reserve};
+use crate::log::{Made, NO_CHOICE, reserve};
 use crate::masks::best_for;
 use crate::moves::{change_thread, deliver, hold};
 use crate::sends::{begin_death, kill_group};
@@ -26,7 +26,7 @@ use tr_group::Action;
 use tr_model::{Checked, Choice, Did, Refusal, Reply, Target};
 use tr_pending::Instance;
 use tr_sigset::{Base, Signal};
-use tr_table::{Own, Table};
+use tr_table::{Log, Own, Table};
 use tr_tracee::{End, Thread};
 
 // Which pending signal a thread takes, and what it does with it: signal(7), and "Signal-delivery-stop" of ptrace(2).
@@ -149,8 +149,7 @@ fn from_queue(table: &Table, thread: &Thread) -> Target
 }
 
 /// A take that is due, of the pending instance with this number: a tracee enters a signal-delivery-stop that holds it,
-/// another thread acts on it. Where memory is refused nothing has changed. What waits has to stand in order of
-/// acceptance, as it does in every table of a journal.
+/// another thread acts on it. Where memory is refused, or the numbers are used up, nothing has changed.
 pub fn take(
     table: &mut Table,
     alloc: Global,
@@ -159,9 +158,6 @@ pub fn take(
     n: u64,
 ) -> Result<Made, AllocError>
     requires due { checked table.old.table actor (Take tid) ≡ Ok (Due (takes_instance n)) }
-    requires sorted { IsSorted table.old.table.waiting }
-    requires accepted { table.old.table.accepted + (length (tgids table.old.table) + 2) < 2 ^ 64 }
-    requires raised { table.old.table.raised + (length (tgids table.old.table) + 2) < 2 ^ 64 }
     ensures did { IfOk result (λ m. Makes m table.new.table (after table.old.table (record { actor = actor; event = Take tid; choice = takes_instance n }))) }
     ensures taken_from { IfOk result (λ m. m.taken_from ≡ queue_of (taken table.old.table (record { actor = actor; event = Take tid; choice = takes_instance n }))) }
     ensures err { OnErr result (table.new.table ≡ table.old.table) }
@@ -170,8 +166,7 @@ pub fn take(
     let instance = table.instance(n).unwrap();
     let from = from_queue(table, &thread);
     let did = did(table, &thread, &instance);
-    let moves = table.group_count() + 2;
-    let mut log = reserve(table, alloc, moves)?;
+    let mut log = reserve(table, alloc, 2)?;
     take_instance(table, &mut log, &thread, &instance, did);
     settle(table, &log);
     Ok(Made {

@@ -1,5 +1,5 @@
 -- The names of a good start fit their 15 bytes.
-use Rattle.std.proofs.Common.{◌≡◌, ◌&&◌, List, [], ◌∷◌, length, nat_le, refl}
+use Rattle.std.proofs.Common.{◌&&◌, List, [], ◌∷◌, length, nat_le, refl}
 use Rattle.std.proofs.lemmas.Bool.{and_from, and_parts}
 use Rattle.std.specs.Prelude.{IsTrue}
 use Rattle.std.specs.List.{list_all}

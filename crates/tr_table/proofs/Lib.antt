@@ -2,5 +2,5 @@ pub mod Found
 pub mod GoodStarts
 pub mod Helds
 pub mod Ids
-pub mod MembersKept
+pub mod Orders
 pub mod SetActions

@@ -1,4 +1,6 @@
 pub mod Starts
 pub mod View
+pub mod Order
 pub mod Changes
+pub mod Queues
 pub mod Held

@@ -12,6 +12,7 @@ ghost use Rattle.tr_tracee.specs.Threads.{only, throughout};
 ghost use Rattle.tr_group.specs.Members.{continued_by};
 ghost use Rattle.tr_table.specs.Changes.{is_flushed, own, regrouped};
 ghost use Rattle.tr_table.specs.Held.{helds};
+ghost use Rattle.tr_table.specs.Queues.{AllBelow};
 
 use crate::groups::{GroupChange, change_groups, note_groups};
 use crate::table::Table;
@@ -30,10 +31,12 @@ use tr_wait::Status;
 impl Table {
     ghost use Rattle.tr_table.specs.View.{View};
 
-    /// Reserves places for this many more instances.
+    /// Reserves places for this many more instances, whatever they wait for. Where memory is refused nothing has changed.
     pub fn reserve(&mut self, more: usize) -> Result<(), AllocError>
         ensures table { self.new.table ≡ self.old.table }
         ensures ok { OnOk result (more ≤ self.new.room) }
+        ensures room { self.old.room ≤ self.new.room }
+        ensures err { OnErr result (self.new ≡ self.old) }
     {
         self.waiting.reserve(more)
     }
@@ -103,10 +106,11 @@ impl Table {
         note_groups(&mut self.groups, tgid, self.raised, status);
     }
 
-    /// Accepts a signal that doesn't wait, and gives its number.
+    /// Accepts a signal that doesn't wait, and gives its number, which is above all that wait.
     pub fn accept(&mut self) -> u64
         requires { self.old.table.accepted + 1 < 2 ^ 64 }
         ensures number { result ≡ self.old.table.accepted + 1 }
+        ensures last { AllBelow result self.old.table.waiting }
         ensures table { self.new ≡ record self.old { table = record self.old.table { accepted = self.old.table.accepted + 1 } } }
     {
         self.accepted += 1;

@@ -1,13 +1,16 @@
-ghost use Rattle.std.specs.Prelude.{◌≡◌, ◌+◌, ◌-◌, map, option_copied, slice_index_or};
+ghost use Rattle.std.specs.Prelude.{◌≡◌, ◌+◌, ◌-◌, ◌==◌, ◌||◌, filter, map, not, option_copied, slice_index_or};
+ghost use Rattle.std.specs.List.{list_any};
+ghost use Rattle.tr_tracee.specs.Threads.{in_group};
 ghost use Rattle.tr_group.specs.declared.stops.Action.TheVariants.{Default};
 ghost use Rattle.tr_model.specs.Moves.{group_changed, only_group, with_note};
 ghost use Rattle.tr_model.specs.Tables.{actions_of, end_of, group_in, stop_of};
 ghost use Rattle.tr_table.specs.Changes.{regrouped};
 
+use crate::threads::has_member;
 use tr_group::{Action, GroupStop};
 use tr_model::Group;
 use tr_sigset::Signal;
-use tr_tracee::{End, Report};
+use tr_tracee::{End, Report, Thread};
 use tr_wait::Status;
 
 /// What happens to the record of a group.
@@ -101,6 +104,37 @@ pub(crate) fn note_groups(groups: &mut Vec<Group>, tgid: u32, number: u64, statu
     ensures items { groups.new.items ≡ group_changed tgid (with_note number status.now) groups.old.items }
 {
     note_first(groups, tgid, number, status);
+}
+
+fn replace_first(groups: &mut [Group], group: &Group)
+    ensures { groups.new ≡ group_changed group.now.tgid (λ _. group.now) groups.old }
+{
+    for i in 0..groups.len() {
+        if groups[i].tgid == group.tgid {
+            groups[i] = *group;
+            return;
+        }
+    }
+}
+
+/// The record of the first group with its id.
+pub(crate) fn replace_group(groups: &mut Vec<Group>, group: &Group)
+    ensures items { groups.new.items ≡ group_changed group.now.tgid (λ _. group.now) groups.old.items }
+{
+    replace_first(groups, group);
+}
+
+fn stays(group: &Group, threads: &[Thread], tgid: u32) -> bool
+    ensures { result ≡ (not (group.now.tgid == tgid) || list_any (in_group tgid) threads.now) }
+{
+    group.tgid != tgid || has_member(threads, tgid)
+}
+
+/// The groups with the id go where they have no threads.
+pub(crate) fn drop_empty(groups: &mut Vec<Group>, threads: &[Thread], tgid: u32)
+    ensures { groups.new.items ≡ filter (λ x. not (x.tgid == tgid) || list_any (in_group tgid) threads.now) groups.old.items }
+{
+    groups.retain(|g| stays(g, threads, tgid));
 }
 
 pub(crate) fn find_group(groups: &[Group], tgid: u32) -> Option<&Group>

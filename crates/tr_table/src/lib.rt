@@ -5,16 +5,23 @@ mod changes;
 mod good;
 mod groups;
 mod items;
+mod logs;
+mod masks;
 mod members;
 mod opened;
+mod queues;
 mod reads;
+mod records;
 mod starts;
 mod table;
+#[cfg(test)]
+mod tests;
 mod threads;
 mod waiting;
 
 pub use groups::GroupChange;
 pub use items::Items;
+pub use logs::Log;
 pub use starts::{GroupStart, Start};
 pub use table::Table;
 pub use threads::Own;

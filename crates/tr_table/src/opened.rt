@@ -3,6 +3,7 @@ ghost use Rattle.std.specs.List.{list_all};
 ghost use Rattle.tr_model.specs.Sends.{set_at};
 ghost use Rattle.tr_table.specs.Starts.{all_started, group_started, name_fits, name_of, names_fit, table_of, thread_started, threads_started, with_actions};
 
+use crate::logs::Log;
 use crate::starts::{GroupStart, Start};
 use crate::table::Table;
 use crate::threads::Threads;
@@ -31,6 +32,7 @@ impl Table {
             raised: 0,
             limit: start.limit,
             entries: start.entries,
+            spare: Log::new(alloc),
         })
     }
 }

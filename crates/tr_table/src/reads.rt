@@ -3,6 +3,7 @@ ghost use Rattle.std.specs.List.{list_any};
 ghost use Rattle.tr_sigset.specs.Sets.{has};
 ghost use Rattle.tr_tracee.specs.Lives.{is_live};
 ghost use Rattle.tr_pending.specs.Waiting.{best_of, is_waiting};
+ghost use Rattle.tr_model.specs.Journals.{IsSorted};
 ghost use Rattle.tr_model.specs.Moves.{instance_in};
 ghost use Rattle.tr_model.specs.Tables.{action_of, all_dead, end_of, group_of, has_live, has_stop_mark, has_traced, members, owner, queue, stop_of};
 ghost use Rattle.tr_table.specs.Changes.{tgids};
@@ -106,7 +107,8 @@ impl Table {
 
     /// The pending instance of a number.
     pub fn instance(&self, n: u64) -> Option<Instance>
-        ensures { result ≡ instance_in self.now.table.waiting n }
+        ensures found { result ≡ instance_in self.now.table.waiting n }
+        ensures sorted { IsSorted self.now.table.waiting }
     {
         find_instance(&self.waiting, n)
     }

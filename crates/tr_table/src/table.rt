@@ -2,6 +2,7 @@ ghost use Rattle.std.specs.Prelude.{◌≡◌, ◌+◌, ◌<◌, ◌≤◌, OnOk
 ghost use Rattle.tr_model.specs.Tables.{group_in, thread_in};
 
 use crate::groups::find_group;
+use crate::logs::Log;
 use crate::threads::{Threads, find_thread};
 use std::alloc::{AllocError, Global};
 use std::marker::Model;
@@ -18,10 +19,12 @@ pub struct Table {
     pub(crate) raised: u64,
     pub(crate) limit: u32,
     pub(crate) entries: u32,
+    pub(crate) spare: Log,
 }
 
 impl Model for Table {
     ghost use Rattle.std.specs.Prelude.{◌-◌, vec_len, vec_capacity};
+    ghost use Rattle.tr_table.specs.Order.{IsOrdered};
     ghost use Rattle.tr_table.specs.View.{View};
 
     ghost Value = { View };
@@ -30,6 +33,8 @@ impl Model for Table {
       table = record { threads = t.threads; groups = t.groups.items; waiting = t.waiting.items; accepted = t.accepted; raised = t.raised; limit = t.limit; entries = t.entries };
       room = vec_capacity t.waiting - vec_len t.waiting;
     } };
+
+    ghost invariant = { λ t. IsOrdered t.waiting.items t.accepted };
 }
 
 impl Table {

@@ -1,4 +1,4 @@
-ghost use Rattle.std.specs.Prelude.{◌≡◌, ◌+◌, ◌<◌, ◌≤◌, ◌++◌, ◌&&◌, length, filter, flat_map, is_some, map, option_copied, slice_get, slice_set, vec_len, vec_capacity};
+ghost use Rattle.std.specs.Prelude.{◌≡◌, ◌+◌, ◌<◌, ◌≤◌, ◌++◌, ◌∷◌, ◌==◌, ◌&&◌, [], OnErr, OnOk, length, filter, flat_map, is_some, map, not, option_copied, slice_get, slice_set, vec_len, vec_capacity};
 ghost use Rattle.std.specs.List.{list_all, list_any};
 ghost use Rattle.tr_sigset.specs.Sets.{has};
 ghost use Rattle.tr_tracee.specs.Lives.{is_dead, is_live};
@@ -8,12 +8,13 @@ ghost use Rattle.tr_model.specs.declared.fates.Fate.TheVariants.{Flushed};
 ghost use Rattle.tr_table.specs.Held.{helds, one};
 ghost use Rattle.tr_tracee.specs.Stops.{entered_as};
 ghost use Rattle.tr_group.specs.Members.{count_in, member, put_member};
-ghost use Rattle.tr_model.specs.Moves.{changed, endings, ends};
+ghost use Rattle.tr_model.specs.Moves.{changed, dropped, endings, ends, in_place};
 ghost use Rattle.tr_model.specs.Tables.{owner_in, thread_in};
 ghost use Rattle.tr_table.specs.Changes.{own};
 
 use std::alloc::{AllocError, Global};
 use std::marker::Model;
+use std::slice;
 use tr_group::Members;
 use tr_model::{Ending, Fate, Target};
 use tr_pending::Instance;
@@ -82,6 +83,43 @@ impl Threads {
         change_each(&mut self.list, id, change);
     }
 
+    /// A thread comes last. Where memory is refused nothing has changed.
+    pub(crate) fn add(&mut self, thread: &Thread) -> Result<(), AllocError>
+        ensures ok { OnOk result (self.new ≡ self.old ++ thread.now ∷ []) }
+        ensures err { OnErr result (self.new ≡ self.old) }
+    {
+        self.list.extend_from_slice(slice::from_ref(thread))
+    }
+
+    /// The record of the first thread with its id.
+    pub(crate) fn replace(&mut self, thread: &Thread)
+        ensures { self.new ≡ changed thread.now.id (λ _. thread.now) self.old }
+    {
+        replace_first(&mut self.list, thread);
+    }
+
+    /// The first thread with the id goes.
+    pub(crate) fn remove(&mut self, id: u32)
+        ensures { self.new ≡ dropped id self.old }
+    {
+        remove_first(&mut self.list, id);
+    }
+
+    /// The dead threads with the id go.
+    pub(crate) fn remove_dead(&mut self, id: u32)
+        ensures { self.new ≡ filter (λ t. not (t.id == id && is_dead t.life)) self.old }
+    {
+        drop_dead(&mut self.list, id);
+    }
+
+    /// A thread takes the place and the id of its dead leader.
+    pub(crate) fn take_place(&mut self, thread: &Thread)
+        ensures { self.new ≡ map (in_place thread.now) (dropped thread.now.id self.old) }
+    {
+        remove_first(&mut self.list, thread.id);
+        place_each(&mut self.list, thread);
+    }
+
     /// The thread with the id enters a ptrace-stop, with the report of this number.
     pub(crate) fn enter(&mut self, id: u32, number: u64, stop: &Stop)
         ensures { self.new ≡ changed id (entered_as number stop.now) self.old }
@@ -135,6 +173,62 @@ fn enter_first(threads: &mut [Thread], id: u32, number: u64, stop: &Stop)
             threads[i] = entered(number, stop, &threads[i]);
             return;
         }
+    }
+}
+
+fn replace_first(threads: &mut [Thread], thread: &Thread)
+    ensures { threads.new ≡ changed thread.now.id (λ _. thread.now) threads.old }
+{
+    for i in 0..threads.len() {
+        if threads[i].id == thread.id {
+            threads[i] = *thread;
+            return;
+        }
+    }
+}
+
+fn remove_first(threads: &mut Vec<Thread>, id: u32)
+    ensures { threads.new.items ≡ dropped id threads.old.items }
+{
+    for i in 0..threads.len() {
+        if threads[i].id == id {
+            let _removed = threads.remove(i);
+            return;
+        }
+    }
+}
+
+fn is_dead_one(thread: &Thread, id: u32) -> bool
+    ensures { result ≡ (thread.now.id == id && is_dead thread.now.life) }
+{
+    thread.id == id && thread.life.is_dead()
+}
+
+fn drop_dead(threads: &mut Vec<Thread>, id: u32)
+    ensures { threads.new.items ≡ filter (λ t. not (t.id == id && is_dead t.life)) threads.old.items }
+{
+    threads.retain(|t| !is_dead_one(t, id));
+}
+
+/// What becomes of a thread where another takes its dead leader's place.
+fn placed(thread: &Thread, other: &Thread) -> Thread
+    ensures { result ≡ in_place thread.now other.now }
+{
+    if other.id == thread.group && other.life.is_dead() {
+        let mut renamed = *thread;
+        renamed.id = thread.group;
+        renamed.report = None;
+        renamed
+    } else {
+        *other
+    }
+}
+
+fn place_each(threads: &mut [Thread], thread: &Thread)
+    ensures { threads.new ≡ map (in_place thread.now) threads.old }
+{
+    for other in threads.iter_mut() {
+        *other = placed(thread, other);
     }
 }
 
@@ -213,6 +307,12 @@ pub(crate) fn owner_of(threads: &[Thread], target: Target) -> u32
 }
 
 // Tests of the threads of one group
+
+pub(crate) fn has_member(threads: &[Thread], tgid: u32) -> bool
+    ensures { result ≡ list_any (in_group tgid) threads.now }
+{
+    threads.iter().any(|t| t.group == tgid)
+}
 
 pub(crate) fn has_traced(threads: &[Thread], tgid: u32) -> bool
     ensures { result ≡ list_any is_traced (filter (in_group tgid) threads.now) }

@@ -1,9 +1,10 @@
 ghost use Rattle.std.specs.Prelude.{◌≡◌, ◌+◌, ◌≤◌, ◌++◌, ◌==◌, ◌∷◌, List, filter, length, map, not, vec_len, vec_capacity};
 ghost use Rattle.tr_model.specs.declared.fates.Fate.TheVariants.{Delivered, Flushed};
-ghost use Rattle.tr_model.specs.Moves.{ending_of, instance_in, without_instance};
+ghost use Rattle.tr_model.specs.Moves.{aimed, ending_of, instance_in, reaimed, without_instance};
 ghost use Rattle.tr_model.specs.Tables.{same_target};
 ghost use Rattle.tr_model.specs.declared.rows.Waiting.{Waiting};
-ghost use Rattle.tr_pending.specs.Waiting.{best_of, is_waiting, rather};
+ghost use Rattle.tr_pending.specs.Waiting.{best_of, first_of, is_waiting, rather};
+ghost use Rattle.tr_table.specs.Queues.{is_of, is_one, without_one};
 ghost use Rattle.tr_table.specs.Changes.{flushes, is_flushed, queue_in};
 
 use crate::threads::owner_of;
@@ -111,6 +112,134 @@ pub(crate) fn pull(waiting: &mut Vec<Waiting>, n: u64)
     }
 }
 
+/// Appends all that waits for a target, as flushed.
+pub(crate) fn log_queue(ended: &mut Vec<Ending>, waiting: &[Waiting], target: Target)
+    requires { vec_len ended.old + length waiting.now ≤ vec_capacity ended.old }
+    ensures items { ended.new.items ≡ ended.old.items ++ map (ending_of Flushed) (filter (λ q. same_target target q.target) waiting.now) }
+    ensures len { vec_len ended.new ≡ vec_len ended.old + length (filter (λ q. same_target target q.target) waiting.now) }
+    ensures capacity { vec_capacity ended.new ≡ vec_capacity ended.old }
+{
+    for w in waiting {
+        if same_target(target, w.target) {
+            ended.push_reserved(Ending {
+                number: w.instance.n,
+                fate: Fate::Flushed,
+            });
+        }
+    }
+}
+
+/// Drops all that waits for a target.
+pub(crate) fn drop_queue(waiting: &mut Vec<Waiting>, target: Target)
+    ensures items { waiting.new.items ≡ filter (λ q. not (same_target target q.target)) waiting.old.items }
+    ensures capacity { vec_capacity waiting.new ≡ vec_capacity waiting.old }
+    ensures len { vec_len waiting.new ≤ vec_len waiting.old }
+{
+    waiting.retain(|w| !same_target(target, w.target));
+}
+
+fn is_in(target: Target, set: SigSet, waiting: &Waiting) -> bool
+    ensures { result ≡ is_of target set waiting.now }
+{
+    same_target(target, waiting.target) && set.has(waiting.instance.sig)
+}
+
+/// Appends the numbers of a target's instances whose signal is in the set, and counts them.
+pub(crate) fn note_gone(
+    waiting: &[Waiting],
+    target: Target,
+    set: SigSet,
+    gone: &mut Vec<u64>,
+) -> u64
+    requires { vec_len gone.old + length waiting.now ≤ vec_capacity gone.old }
+    ensures count { result ≡ length (filter (is_of target set) waiting.now) }
+    ensures named { gone.new.items ≡ gone.old.items ++ map (λ q. q.instance.n) (filter (is_of target set) waiting.now) }
+    ensures capacity { vec_capacity gone.new ≡ vec_capacity gone.old }
+{
+    let mut count = 0;
+    for w in waiting {
+        if is_in(target, set, w) {
+            gone.push_reserved(w.instance.n);
+            count += 1;
+        }
+    }
+    count
+}
+
+/// Drops a target's instances whose signal is in the set.
+pub(crate) fn drop_gone(waiting: &mut Vec<Waiting>, target: Target, set: SigSet)
+    ensures items { waiting.new.items ≡ filter (λ q. not (is_of target set q)) waiting.old.items }
+    ensures capacity { vec_capacity waiting.new ≡ vec_capacity waiting.old }
+    ensures len { vec_len waiting.new ≤ vec_len waiting.old }
+{
+    waiting.retain(|w| !is_in(target, set, w));
+}
+
+/// What waits for one thread waits for another.
+pub(crate) fn reaim(waiting: &mut Vec<Waiting>, from: u32, to: u32)
+    ensures items { waiting.new.items ≡ map (reaimed from to) waiting.old.items }
+    ensures capacity { vec_capacity waiting.new ≡ vec_capacity waiting.old }
+    ensures len { vec_len waiting.new ≡ vec_len waiting.old }
+{
+    reaim_each(waiting, from, to);
+}
+
+fn reaim_each(waiting: &mut [Waiting], from: u32, to: u32)
+    ensures { waiting.new ≡ map (reaimed from to) waiting.old }
+{
+    for w in waiting.iter_mut() {
+        w.target = aimed(from, to, w.target);
+    }
+}
+
+fn aimed(from: u32, to: u32, target: Target) -> Target
+    ensures { result ≡ aimed from to target }
+{
+    match target {
+        Target::Thread(id) if id == from => Target::Thread(to),
+        _ => target,
+    }
+}
+
+fn is_one(target: Target, signal: Signal, waiting: &Waiting) -> bool
+    ensures { result ≡ is_one target signal waiting.now }
+{
+    same_target(target, waiting.target) && waiting.instance.sig == signal
+}
+
+/// Takes the first instance of the signal that waits for the target.
+pub(crate) fn take_first(
+    waiting: &mut Vec<Waiting>,
+    target: Target,
+    signal: Signal,
+) -> Option<Instance>
+    ensures taken { result ≡ first_of signal (queue_in target waiting.old.items) }
+    ensures items { waiting.new.items ≡ without_one target signal waiting.old.items }
+    ensures capacity { vec_capacity waiting.new ≡ vec_capacity waiting.old }
+    ensures len { vec_len waiting.new ≤ vec_len waiting.old }
+{
+    for i in 0..waiting.len() {
+        if is_one(target, signal, &waiting[i]) {
+            let taken = waiting.remove(i);
+            return Some(taken.instance);
+        }
+    }
+    None
+}
+
+/// How many instances wait for the target.
+pub(crate) fn count_waiting(waiting: &[Waiting], target: Target) -> usize
+    ensures { result ≡ length (queue_in target waiting.now) }
+{
+    let mut count = 0;
+    for w in waiting {
+        if same_target(target, w.target) {
+            count += 1;
+        }
+    }
+    count
+}
+
 /// The instance of this number.
 pub(crate) fn find_instance(waiting: &[Waiting], n: u64) -> Option<Instance>
     ensures { result ≡ instance_in waiting.now n }
@@ -123,7 +252,7 @@ pub(crate) fn find_instance(waiting: &[Waiting], n: u64) -> Option<Instance>
     None
 }
 
-fn same_target(a: Target, b: Target) -> bool
+pub(crate) fn same_target(a: Target, b: Target) -> bool
     ensures { result ≡ same_target a b }
 {
     match (a, b) {

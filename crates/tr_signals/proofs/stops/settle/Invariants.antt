@@ -3,7 +3,7 @@ use Rattle.tr_model.specs.GroupStops.{settle_group}
 use Rattle.tr_model.specs.Moves.{Work, each}
 use Rattle.tr_table.specs.Changes.{tgids}
 use Rattle.tr_signals.specs.Shows.{Room, Shows}
-use Rattle.tr_signals.specs.declared.log.Log.{Log}
+use Rattle.tr_table.specs.declared.logs.Log.{Log}
 use Rattle.tr_signals.proofs.stops.settle.Given as goal
 
 abbrev pub invariant-loop-i : goal.invariant-loop-i

@@ -1,0 +1,40 @@
+use crate::starts::kernel;
+use std::io;
+use std::rt::Clock;
+use std::time::Instant;
+use tr_kernel::Kernel;
+
+/// How many steps one round makes.
+pub const STEPS: u64 = 1 << 18;
+
+/// How many rounds are timed; the quickest counts.
+const ROUNDS: usize = 15;
+
+/// The time of a step, how many million steps a second that is, and how many of one round's were answered.
+#[derive(Clone, Copy)]
+pub struct Timing {
+    pub nanoseconds: f64,
+    pub rate: f64,
+    pub answered: u64,
+}
+
+/// Times rounds of `STEPS` steps, each on a new kernel.
+pub fn timed<R: Fn(&mut Kernel) -> u64>(rt: &HostRuntime, steps: R) -> io::Result<Timing>
+    requires { R.IsAlwaysCallable steps }
+{
+    let mut quickest = f64::MAX;
+    let mut answered: u64 = 0;
+    for _ in 0..ROUNDS {
+        let mut kernel = kernel(rt.alloc())?;
+        let start = Instant::now(rt)?;
+        answered = steps(&mut kernel);
+        let seconds = start.elapsed(rt)?.as_secs_f64();
+        quickest = quickest.min(seconds);
+    }
+    let nanoseconds = quickest * 1e9 / STEPS as f64;
+    Ok(Timing {
+        nanoseconds,
+        rate: 1e3 / nanoseconds,
+        answered,
+    })
+}

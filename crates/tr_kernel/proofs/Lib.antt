@@ -1,0 +1,6 @@
+pub mod Begun
+pub mod Called
+pub mod Checks
+pub mod Histories
+pub mod Noted
+pub mod Refusals

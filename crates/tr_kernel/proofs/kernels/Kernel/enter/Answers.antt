@@ -1,0 +1,56 @@
+use Rattle.std.proofs.Common.{◌≡◌, Ok, refl, sym, subst}
+use Rattle.tr_model.specs.declared.checked.Checked.TheVariants.{Due}
+use Rattle.tr_model.specs.Preferred.{checked}
+use Rattle.tr_kernel.specs.States.{State}
+use Rattle.tr_kernel.proofs.Histories.{counted, few_after, few_same, written_entered, written_history}
+use Rattle.tr_kernel.proofs.kernels.Kernel.enter.Goals as goal
+use Rattle.tr_kernel.proofs.kernels.Kernel.enter.Goals.{in-Ok, in-Err}
+
+pub write_entry-made-requires-clause-counted : goal.write_entry-made-requires-clause-counted
+write_entry-made-requires-clause-counted c = counted _ c.self.invariant
+
+pub write_entry-made-requires-clause-bounded : goal.write_entry-made-requires-clause-bounded
+write_entry-made-requires-clause-bounded c =
+    let due = subst (λ (k : State). checked k.table c.args.actor c.args.event.now ≡ Ok (Due c.args.choice.now)) (sym c.self.view_is) c.requires in
+    few_after _ (record { actor = c.args.actor; event = c.args.event.now; choice = c.args.choice.now }) c.self.invariant due
+
+pub invariant_of-self : goal.invariant_of-self
+invariant_of-self c =
+    let due = subst (λ (k : State). checked k.table c.args.actor c.args.event.now ≡ Ok (Due c.args.choice.now)) (sym c.self.view_is) c.requires in
+    elim c.match-made.branch [
+      | in-Ok w ↦
+          let e = w.in-Ok.ensures in
+          written_history _ _ w.in-Ok.reply _ c.self.invariant due (record { start = refl; table = e.table; reply = e.reply; journal = e.journal; replies = e.replies; fates = e.fates })
+      | in-Err w ↦ let e = w.in-Err.ensures in rw (e.err_table, e.err_journal, e.err_replies, e.err_fates) c.self.invariant
+    ]
+
+pub returns-clause-history : goal.returns-clause-history
+returns-clause-history c =
+    let due = subst (λ (k : State). checked k.table c.args.actor c.args.event.now ≡ Ok (Due c.args.choice.now)) (sym c.self.view_is) c.requires in
+    elim c.match-made.branch [
+      | in-Ok w ↦
+          let e = w.in-Ok.ensures in
+          written_history _ _ w.in-Ok.reply _ c.self.invariant due (record { start = refl; table = e.table; reply = e.reply; journal = e.journal; replies = e.replies; fates = e.fates })
+      | in-Err w ↦ let e = w.in-Err.ensures in rw (e.err_table, e.err_journal, e.err_replies, e.err_fates) c.self.invariant
+    ]
+
+pub returns-clause-ok : goal.returns-clause-ok
+returns-clause-ok c =
+    let due = subst (λ (k : State). checked k.table c.args.actor c.args.event.now ≡ Ok (Due c.args.choice.now)) (sym c.self.view_is) c.requires in
+    elim c.match-made.branch [
+      | in-Ok w ↦
+          let e = w.in-Ok.ensures in
+          rw (w.result-is, ← c.self.view_is)
+          (written_entered _ (record { actor = c.args.actor; event = c.args.event.now; choice = c.args.choice.now }) w.in-Ok.reply _ c.self.invariant due (record { start = refl; table = e.table; reply = e.reply; journal = e.journal; replies = e.replies; fates = e.fates }))
+      | in-Err w ↦ rw w.result-is tt
+    ]
+
+pub returns-clause-bounded : goal.returns-clause-bounded
+returns-clause-bounded c =
+    let due = subst (λ (k : State). checked k.table c.args.actor c.args.event.now ≡ Ok (Due c.args.choice.now)) (sym c.self.view_is) c.requires in
+    elim c.match-made.branch [
+      | in-Ok w ↦
+          let e = w.in-Ok.ensures in
+          rw (← c.self.view_is, e.table) (few_after _ (record { actor = c.args.actor; event = c.args.event.now; choice = c.args.choice.now }) c.self.invariant due)
+      | in-Err w ↦ rw (← c.self.view_is, w.in-Err.ensures.err_table) (few_same _)
+    ]

@@ -1,0 +1,19 @@
+use Rattle.std.proofs.Common.{◌≡◌, ◌+◌, ◌∙◌, sym, ap, ap₂, subst}
+use Rattle.tr_model.specs.declared.fates.Totals.{Totals}
+use Rattle.tr_model.specs.Journals.{totals}
+use Rattle.tr_model.proofs.Tally.{fates_sum}
+use Rattle.tr_table.specs.Starts.{table_of}
+use Rattle.tr_kernel.specs.Fates.{tally}
+use Rattle.tr_kernel.specs.States.{State}
+use Rattle.tr_kernel.proofs.Histories.{tally_is}
+use Rattle.tr_kernel.proofs.kernels.Kernel.totals.Goals as goal
+
+pub returns-clause-totals : goal.returns-clause-totals
+returns-clause-totals c =
+    c.tally.ensures ∙ (ap₂ tally c.deref.ensures.value c.accepted.ensures ∙ (tally_is _ c.self.invariant ∙ ap (λ (k : State). totals (table_of k.start) k.journal k.table) c.self.view_is))
+
+pub returns-clause-sum : goal.returns-clause-sum
+returns-clause-sum c =
+    subst (λ (t : Totals). t.pending + t.merged + t.delivered + t.suppressed + t.flushed ≡ t.accepted)
+    (sym (c.tally.ensures ∙ (ap₂ tally c.deref.ensures.value c.accepted.ensures ∙ tally_is _ c.self.invariant)))
+    (fates_sum (table_of c.self.inside.start) c.self.inside.table.table c.self.inside.journal.items)

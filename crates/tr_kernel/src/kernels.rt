@@ -1,0 +1,171 @@
+ghost use Rattle.std.specs.Prelude.{◌≡◌, ℕ, ◌≤◌, ◌<◌, ◌+◌, ◌-◌, ◌⊎◌, length, slice_get, IfOk, IfErr, IfSome, OnErr, Ok, Err, Some, None, false, true};
+ghost use Rattle.tr_model.specs.declared.checked.Checked.TheVariants.{Due};
+ghost use Rattle.tr_model.specs.declared.replies.Refusal.{Refusal};
+ghost use Rattle.tr_model.specs.Journals.{HasFate, consumed_by, ended_by, fate_of, occurs, totals};
+ghost use Rattle.tr_model.specs.Laws.{OneFate};
+ghost use Rattle.tr_model.specs.Preferred.{checked, refused};
+ghost use Rattle.tr_table.specs.Starts.{is_good, table_of};
+ghost use Rattle.tr_kernel.specs.States.{AcceptsFew, IsDue, IsEntered, IsHistory, IsQuiet, IsRefusal, opened};
+
+use crate::entries::write_entry;
+use crate::events::check;
+use crate::fates::{at_position, tally};
+use std::alloc::{AllocError, Global};
+use std::marker::Model;
+use tr_model::{Checked, Choice, Entry, Event, Fate, Refusal, Reply, Totals};
+use tr_table::{Start, Table};
+
+/// Why a kernel can't start.
+#[derive(Clone, Copy, Debug, PartialEq, Eq)]
+pub enum StartFault {
+    /// The start breaks a limit or a rule: `Start::is_good`.
+    BadStart,
+    /// Memory was refused.
+    NoMemory,
+}
+
+/// A table of threads and groups, the journal that replays to it, the reply of each entry and the fate of each accepted
+/// signal.
+#[derive(Drop)]
+pub struct Kernel {
+    start: Start,
+    table: Table,
+    journal: Vec<Entry>,
+    replies: Vec<Reply>,
+    fates: Vec<Fate>,
+    alloc: Global,
+}
+
+impl Model for Kernel {
+    ghost use Rattle.tr_kernel.specs.States.{State, IsHistory};
+
+    ghost Value = { State };
+
+    ghost view = { λ k. record { start = k.start; table = k.table.table; journal = k.journal.items; replies = k.replies.items; fates = k.fates.items } };
+
+    ghost invariant = { λ k. IsHistory (record { start = k.start; table = k.table.table; journal = k.journal.items; replies = k.replies.items; fates = k.fates.items }) };
+}
+
+impl Kernel {
+    /// A kernel with the table of a start and an empty journal. `BadStart` comes exactly where the start isn't good.
+    pub fn new(alloc: Global, start: Start) -> Result<Kernel, StartFault>
+        ensures ok { IfOk result (λ k. (is_good start ≡ true) × (k ≡ opened start)) }
+        ensures bad { is_good start ≡ false → result ≡ Err StartFault.BadStart }
+        ensures err { is_good start ≡ true → IfErr result (λ why. why ≡ StartFault.NoMemory) }
+    {
+        if !start.is_good() {
+            return Err(StartFault::BadStart);
+        }
+        match Table::open(&start, alloc) {
+            Ok(table) => Ok(Kernel {
+                start,
+                table,
+                journal: Vec::new(alloc),
+                replies: Vec::new(alloc),
+                fates: Vec::new(alloc),
+                alloc,
+            }),
+            Err(AllocError) => Err(StartFault::NoMemory),
+        }
+    }
+
+    /// What the kernel started from.
+    pub fn start(&self) -> &Start
+        ensures { result.now ≡ self.now.start }
+    {
+        &self.start
+    }
+
+    /// The table that it holds.
+    pub fn table(&self) -> &Table
+        ensures { result.now.table ≡ self.now.table }
+    {
+        &self.table
+    }
+
+    /// The entries so far. They replay from the start's table to the table held; every accepted signal waits, is held,
+    /// or was ended by exactly one of them; and no two waits among them consumed one report.
+    pub fn journal(&self) -> &[Entry]
+        ensures entries { result.now ≡ self.now.journal }
+        ensures history { IsHistory self.now }
+        ensures one_fate { OneFate (table_of self.now.start) self.now.journal self.now.table }
+        ensures one_wait { (r : ℕ) → occurs r (consumed_by self.now.journal) ≤ 1 }
+    {
+        self.journal.as_slice()
+    }
+
+    /// The reply of the entry at a position, from 1.
+    pub fn reply_at(&self, position: u64) -> Option<Reply>
+        ensures none { position ≡ 0 → result ≡ None }
+        ensures at { 1 ≤ position → result ≡ slice_get self.now.replies (position - 1) }
+    {
+        at_position(&self.replies, position)
+    }
+
+    /// What has become of the accepted signal of a number, from 1 up; None for 0 and for numbers not accepted so far.
+    pub fn fate(&self, number: u64) -> Option<Fate>
+        ensures fate { result ≡ fate_of (table_of self.now.start) self.now.journal self.now.table number }
+        ensures has { IfSome result (λ f. HasFate (ended_by (table_of self.now.start) self.now.journal) self.now.table number f) }
+    {
+        at_position(&self.fates, number)
+    }
+
+    /// How many signals were accepted, and how many have each fate.
+    pub fn totals(&self) -> Totals
+        ensures totals { result ≡ totals (table_of self.now.start) self.now.journal self.now.table }
+        ensures sum { result.pending + result.merged + result.delivered + result.suppressed + result.flushed ≡ result.accepted }
+    {
+        tally(&self.fates, self.table.accepted())
+    }
+
+    /// One event of an actor: an answer without an entry, or one entry more, or a refusal.
+    ///
+    /// A cause of the model's comes exactly where the model has it; `JournalFull` exactly where an entry is due and the
+    /// journal has as many as the entry limit; `NoMemory` only where an entry is due and the journal isn't full. After a
+    /// refusal nothing has changed.
+    pub fn step(&mut self, actor: u32, event: Event) -> Result<Reply, Refusal>
+        ensures ok { IfOk result (λ reply. IsQuiet self.old actor event reply self.new ⊎ IsEntered self.old actor event reply self.new) }
+        ensures err { IfErr result (λ why. IsRefusal self.old actor event why) }
+        ensures unchanged { OnErr result (self.new ≡ self.old) }
+        ensures cause { (why : Refusal) → refused self.old.table actor event ≡ Some why → result ≡ Err why }
+        ensures full { IsDue self.old actor event → self.old.table.entries ≤ length self.old.journal → result ≡ Err Refusal.JournalFull }
+        ensures bounded { AcceptsFew self.old.table self.new.table }
+        ensures history { IsHistory self.new }
+    {
+        match check(&self.table, actor, &event) {
+            Err(why) => Err(why),
+            Ok(Checked::Quiet(reply)) => Ok(reply),
+            Ok(Checked::Due(choice)) => {
+                if self.journal.len() >= self.table.entries() as usize {
+                    return Err(Refusal::JournalFull);
+                }
+                self.enter(actor, &event, &choice)
+            }
+        }
+    }
+
+    /// Makes the entry of an event that is due. Where memory is refused nothing has changed.
+    fn enter(&mut self, actor: u32, event: &Event, choice: &Choice) -> Result<Reply, Refusal>
+        requires { checked self.old.table actor event.now ≡ Ok (Due choice.now) }
+        ensures ok { IfOk result (λ reply. IsEntered self.old actor event.now reply self.new) }
+        ensures err { IfErr result (λ why. why ≡ Refusal.NoMemory) }
+        ensures unchanged { OnErr result (self.new ≡ self.old) }
+        ensures bounded { AcceptsFew self.old.table self.new.table }
+        ensures history { IsHistory self.new }
+    {
+        let made = write_entry(
+            &mut self.table,
+            &mut self.journal,
+            &mut self.replies,
+            &mut self.fates,
+            self.alloc,
+            actor,
+            event,
+            choice,
+        );
+        match made {
+            Ok(reply) => Ok(reply),
+            Err(AllocError) => Err(Refusal::NoMemory),
+        }
+    }
+}

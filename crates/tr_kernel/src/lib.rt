@@ -1,0 +1,12 @@
+//! The kernel: a table, and the journal that replays to it.
+#![tactic(auto)]
+
+mod entries;
+mod events;
+mod fates;
+mod kernels;
+
+pub use kernels::{Kernel, StartFault};
+
+#[cfg(test)]
+mod tests;

@@ -1,0 +1,141 @@
+ghost use Rattle.std.specs.Prelude.{◌≡◌, ◌≤◌, ◌==◌, ◌||◌, ℕ, option_copied, take};
+ghost use Rattle.tr_lanes.specs.Digits.{set_digits};
+ghost use Rattle.tr_model.specs.declared.rows.Target.TheVariants as target;
+ghost use Rattle.tr_model.specs.Tables.{actions_of, group_of};
+ghost use Rattle.tr_group.specs.declared.stops.Action.TheVariants as action;
+ghost use Rattle.tr_sigset.specs.Sets.{has};
+ghost use Rattle.tr_status.specs.Statuses.{has_action, name_text, same_action, state_text, tracer_number, waits_for};
+
+use tr_group::Action;
+use tr_lanes::hex16;
+use tr_model::{Group, Target};
+use tr_sigset::{SigSet, Signal};
+use tr_table::Table;
+use tr_tracee::{Life, Thread, Trace};
+
+// The values of a status's lines.
+
+/// The sets of signals that a status shows, each as sixteen digits.
+#[derive(Clone, Copy, Debug)]
+pub(crate) struct Masks {
+    pub(crate) own: [u8; 16],
+    pub(crate) shared: [u8; 16],
+    pub(crate) blocked: [u8; 16],
+    pub(crate) ignored: [u8; 16],
+    pub(crate) caught: [u8; 16],
+}
+
+/// The sets of a thread.
+pub(crate) fn masks_of(table: &Table, thread: &Thread) -> Masks
+    ensures own { result.own ≡ set_digits (waits_for table.now.table (target.Thread thread.now.id)) }
+    ensures shared { result.shared ≡ set_digits (waits_for table.now.table (target.Group thread.now.group)) }
+    ensures blocked { result.blocked ≡ set_digits (has thread.now.mask) }
+    ensures ignored { result.ignored ≡ set_digits (has_action action.Ignore (actions_of (group_of table.now.table thread.now.group))) }
+    ensures caught { result.caught ≡ set_digits (has_action action.Catch (actions_of (group_of table.now.table thread.now.group))) }
+{
+    let group = table.group(thread.group);
+    Masks {
+        own: digits_waiting(table, Target::Thread(thread.id)),
+        shared: digits_waiting(table, Target::Group(thread.group)),
+        blocked: hex16(thread.mask.bits()),
+        ignored: digits_with(group, Action::Ignore),
+        caught: digits_with(group, Action::Catch),
+    }
+}
+
+fn digits_waiting(table: &Table, target: Target) -> [u8; 16]
+    ensures { result ≡ set_digits (waits_for table.now.table target) }
+{
+    hex16(table.mask(target).bits())
+}
+
+fn digits_with(group: Option<&Group>, wanted: Action) -> [u8; 16]
+    ensures { result ≡ set_digits (has_action wanted (actions_of (option_copied group.entry))) }
+{
+    hex16(signals_with(group, wanted).bits())
+}
+
+/// The signals that have this action in a group, all of them `Default` where there is no group.
+fn signals_with(group: Option<&Group>, wanted: Action) -> SigSet
+    ensures { (n : ℕ) → has result n ≡ has_action wanted (actions_of (option_copied group.entry)) n }
+{
+    match group {
+        Some(group) => signals_in(&group.actions, wanted),
+        None => signals_in(&[Action::Default; 64], wanted),
+    }
+}
+
+fn signals_in(actions: &[Action; 64], wanted: Action) -> SigSet
+    ensures { (n : ℕ) → has result n ≡ has_action wanted actions.now n }
+{
+    let mut signals = SigSet::empty();
+    for place in 0..64u8 {
+        if same_action(wanted, actions[usize::from(place)]) {
+            signals = with_numbered(signals, place + 1);
+        }
+    }
+    signals
+}
+
+/// The set with the signal of a number put in.
+fn with_numbered(signals: SigSet, number: u8) -> SigSet
+    requires least { 1 ≤ number }
+    requires greatest { number ≤ 64 }
+    ensures { (n : ℕ) → has result n ≡ (has signals n || n == number) }
+{
+    match Signal::new(number) {
+        Some(signal) => signals.with(signal),
+        None => signals,
+    }
+}
+
+fn same_action(one: Action, other: Action) -> bool
+    ensures { result ≡ same_action one other }
+{
+    match (one, other) {
+        (Action::Default, Action::Default) => true,
+        (Action::Ignore, Action::Ignore) => true,
+        (Action::Catch, Action::Catch) => true,
+        _ => false,
+    }
+}
+
+/// The name of a group's program, empty where there is no group.
+pub(crate) fn name_of(group: Option<&Group>) -> &[u8]
+    ensures { result.now ≡ name_text (option_copied group.entry) }
+{
+    match group {
+        Some(group) => front(&group.name.bytes, usize::from(group.name.len)),
+        None => &[],
+    }
+}
+
+/// The first bytes, this many, or all where there are fewer.
+fn front(bytes: &[u8], len: usize) -> &[u8]
+    ensures { result.now ≡ take len bytes.now }
+{
+    &bytes[..len.min(bytes.len())]
+}
+
+/// What the thread is doing.
+pub(crate) fn state_of(thread: &Thread) -> &'static [u8]
+    ensures { result.now ≡ state_text thread.now.pausing thread.now.life }
+{
+    match thread.life {
+        Life::Free if thread.pausing => b"S (sleeping)",
+        Life::Free | Life::Execing | Life::Leaving { .. } => b"R (running)",
+        Life::Stopped => b"T (stopped)",
+        Life::InStop(_) | Life::Listening => b"t (tracing stop)",
+        Life::Dead(_) => b"Z (zombie)",
+    }
+}
+
+/// The tracer's number, 0 where there is none.
+pub(crate) fn tracer_number(trace: &Option<Trace>) -> u32
+    ensures { result ≡ tracer_number trace.now }
+{
+    match trace {
+        Some(trace) => trace.tracer,
+        None => 0,
+    }
+}

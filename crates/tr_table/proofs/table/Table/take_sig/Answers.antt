@@ -1,0 +1,5 @@
+use Rattle.tr_table.proofs.Orders.{ordered_without}
+use Rattle.tr_table.proofs.table.Table.take_sig.Goals as goal
+
+pub invariant_of-self : goal.invariant_of-self
+invariant_of-self c = rw c.take_first.ensures.items (ordered_without _ _ _ _ c.self.invariant)

@@ -1,0 +1,40 @@
+ghost use Rattle.std.specs.Prelude.{◌≡◌};
+ghost use Rattle.tr_model.specs.Tables.{queue};
+ghost use Rattle.tr_pending.specs.Waiting.{IsMask};
+ghost use Rattle.tr_table.specs.Changes.{queue_in};
+
+use crate::table::Table;
+use crate::waiting::same_target;
+use tr_model::{Target, Waiting};
+use tr_sigset::SigSet;
+use tr_tracee::Thread;
+
+// What a status shows of a table. No call here takes memory.
+
+impl Table {
+    /// The set of the signals that wait for the target.
+    pub fn mask(&self, target: Target) -> SigSet
+        ensures { IsMask result (queue self.now.table target) }
+    {
+        mask_of(&self.waiting, target)
+    }
+
+    /// The records of the threads, in table order.
+    pub fn threads(&self) -> &[Thread]
+        ensures { result.now ≡ self.now.table.threads }
+    {
+        self.threads.as_slice()
+    }
+}
+
+fn mask_of(waiting: &[Waiting], target: Target) -> SigSet
+    ensures { IsMask result (queue_in target waiting.now) }
+{
+    let mut mask = SigSet::empty();
+    for w in waiting {
+        if same_target(target, w.target) {
+            mask = mask.with(w.instance.sig);
+        }
+    }
+    mask
+}

@@ -1,0 +1,76 @@
+ghost use Rattle.std.specs.Prelude.{◌≡◌, ◌++◌, ◌∷◌, ◌==◌, [], OnErr, OnOk, is_some};
+ghost use Rattle.tr_model.specs.Moves.{at, begin, changed, drop_empty, dropped, group_changed, placed, remove_dead};
+ghost use Rattle.tr_model.specs.Tables.{thread_of};
+
+use crate::groups::{drop_empty, replace_group};
+use crate::table::Table;
+use crate::threads::find_thread;
+use crate::waiting::reaim;
+use std::alloc::AllocError;
+use tr_model::Group;
+use tr_tracee::Thread;
+
+// Records that come, go or are written anew. Only `add` takes memory.
+
+impl Table {
+    ghost use Rattle.tr_table.specs.View.{View};
+
+    /// A thread comes last in the table. Where memory is refused nothing has changed.
+    pub fn add(&mut self, thread: &Thread) -> Result<(), AllocError>
+        ensures ok { OnOk result (self.new ≡ record self.old { table = record self.old.table { threads = self.old.table.threads ++ thread.now ∷ [] } }) }
+        ensures err { OnErr result (self.new ≡ self.old) }
+    {
+        self.threads.add(thread)
+    }
+
+    /// The first thread with the id goes, and the threads after it move up. Says whether there was one. What waits for
+    /// it stays.
+    pub fn remove(&mut self, id: u32) -> bool
+        ensures was { result ≡ is_some (thread_of self.old.table id) }
+        ensures table { self.new ≡ record self.old { table = record self.old.table { threads = dropped id self.old.table.threads } } }
+    {
+        let was = find_thread(self.threads.as_slice(), id).is_some();
+        self.threads.remove(id);
+        was
+    }
+
+    /// The thread with the id goes if it is dead, and the threads after it move up. What waits for it stays.
+    pub fn remove_dead(&mut self, id: u32)
+        ensures { self.new ≡ record self.old { table = (remove_dead (λ t. t.id == id) (begin self.old.table)).table } }
+    {
+        self.threads.remove_dead(id);
+    }
+
+    /// The group with the id goes if it has no thread, and the groups after it move up.
+    pub fn remove_group(&mut self, tgid: u32)
+        ensures { self.new ≡ record self.old { table = (drop_empty tgid (begin self.old.table)).table } }
+    {
+        drop_empty(&mut self.groups, self.threads.as_slice(), tgid);
+    }
+
+    /// The thread with the id takes the place and the id of its dead leader, whose record goes, and what waits for it
+    /// goes with it: "execve(2) under ptrace" of ptrace(2). Nothing changes where there is no such thread.
+    pub fn rename(&mut self, id: u32)
+        ensures { self.new ≡ record self.old { table = (at id placed (begin self.old.table)).table } }
+    {
+        if let Some(thread) = find_thread(self.threads.as_slice(), id) {
+            let thread = *thread;
+            self.threads.take_place(&thread);
+            reaim(&mut self.waiting, thread.id, thread.group);
+        }
+    }
+
+    /// Writes the record of a thread, over that of the first thread with its id.
+    pub fn put_thread(&mut self, thread: &Thread)
+        ensures { self.new ≡ record self.old { table = record self.old.table { threads = changed thread.now.id (λ _. thread.now) self.old.table.threads } } }
+    {
+        self.threads.replace(thread);
+    }
+
+    /// Writes the record of a group, over that of the first group with its id.
+    pub fn put_group(&mut self, group: &Group)
+        ensures { self.new ≡ record self.old { table = record self.old.table { groups = group_changed group.now.tgid (λ _. group.now) self.old.table.groups } } }
+    {
+        replace_group(&mut self.groups, group);
+    }
+}

@@ -1,0 +1,22 @@
+-- What clap's kinds of error come to.
+use Rattle.std.proofs.Common.{◌≡◌, ◌∙◌, ap, subst, inl, inr, refl, true, List, [], Result, Ok, Err}
+use Rattle.clap.specs.Words.{App, HasKind, Text, fault_of, is_simple_and_free, kind_of}
+use Rattle.clap.specs.declared.error.Error.{Error}
+use Rattle.tracebox.specs.declared.asking.Ask.{Ask}
+use Rattle.tracebox.specs.declared.asking.AskFault.{AskFault}
+use Rattle.tracebox.specs.Asks.{Blames, fault_at}
+use Rattle.tracebox.specs.CommandLine.{tracebox}
+
+pub simple : is_simple_and_free tracebox ≡ true
+simple = refl
+
+pub taken : (words : List Text) (r : Result Ask AskFault) → fault_of tracebox words ≡ [] → Blames words r
+taken words (Ok a) h = h
+taken words (Err e) h = inr (inl h)
+
+kinds_fault : (words : List Text) (error : Error) (e : AskFault) → e ≡ fault_at (kind_of error) → HasKind (fault_of tracebox words) error → Blames words (Err e)
+kinds_fault words error e h (inl m) = inl (h ∙ ap fault_at m)
+kinds_fault words error e h (inr k) = inr (inr (kind_of error, k, h))
+
+pub refused : (app : App) (words : List Text) (error : Error) (e : AskFault) → app ≡ tracebox → e ≡ fault_at (kind_of error) → HasKind (fault_of app words) error → Blames words (Err e)
+refused app words error e same h k = kinds_fault words error e h (subst (λ (a : App). HasKind (fault_of a words) error) same k)

@@ -1,0 +1,39 @@
+-- How the program tells its faults, and what it exits with.
+use Rattle.std.specs.Prelude.{ℕ, List, codes}
+use Rattle.tr_scenario.specs.declared.faults.ScenarioFault.{ScenarioFault}
+use Rattle.tr_scenario.specs.declared.faults.ScenarioFault.TheVariants.{NotJson, BadField, BadSignal, TooLarge, Repeated, BadStart, Unsettled, NoMemory, ReadFault, WriteFault}
+use Rattle.tracebox.specs.declared.faults.Fault.{Fault}
+use Rattle.tracebox.specs.declared.faults.Fault.TheVariants.{Usage, NotAWord, Scenario}
+use Rattle.tracebox.specs.Meanings.{line}
+
+abbrev pub scenario_fault_name : ScenarioFault → List ℕ
+scenario_fault_name NotJson = codes "NotJson"
+scenario_fault_name BadField = codes "BadField"
+scenario_fault_name BadSignal = codes "BadSignal"
+scenario_fault_name TooLarge = codes "TooLarge"
+scenario_fault_name Repeated = codes "Repeated"
+scenario_fault_name BadStart = codes "BadStart"
+scenario_fault_name Unsettled = codes "Unsettled"
+scenario_fault_name NoMemory = codes "NoMemory"
+scenario_fault_name ReadFault = codes "ReadFault"
+scenario_fault_name WriteFault = codes "WriteFault"
+
+abbrev pub fault_name : Fault → List ℕ
+fault_name Usage = codes "Usage"
+fault_name NotAWord = codes "NotAWord"
+fault_name (Scenario e) = scenario_fault_name e
+
+abbrev pub fault_line : Fault → List ℕ
+fault_line e = line (codes "tracebox: ") (fault_name e)
+
+-- 3 for memory and devices, else 1 for what is read
+abbrev pub scenario_status : ScenarioFault → ℕ
+scenario_status NoMemory = 3
+scenario_status ReadFault = 3
+scenario_status WriteFault = 3
+scenario_status _ = 1
+
+abbrev pub fault_status : Fault → ℕ
+fault_status Usage = 2
+fault_status NotAWord = 1
+fault_status (Scenario e) = scenario_status e

@@ -1,0 +1,86 @@
+ghost use Rattle.std.specs.Prelude.{◌≡◌};
+ghost use Rattle.tr_scenario.specs.declared.faults.ScenarioFault.TheVariants as scenario;
+ghost use Rattle.tracebox.specs.declared.faults.Fault.TheVariants.{Scenario};
+ghost use Rattle.tracebox.specs.Faults.{fault_name, fault_status, scenario_fault_name};
+
+use std::alloc::AllocError;
+use tr_scenario::ScenarioFault;
+use tr_status::Failed;
+
+/// Why the program didn't do what it was asked for.
+#[derive(Clone, Copy, Debug, PartialEq, Eq)]
+pub enum Fault {
+    /// The command line isn't one that the program takes.
+    Usage,
+    /// No status has the word.
+    NotAWord,
+    /// The scenario is refused, or memory or a device.
+    Scenario(ScenarioFault),
+}
+
+impl From<ScenarioFault> for Fault {
+    ghost from_gives = { λ fault e. e ≡ Scenario fault };
+
+    fn from(fault: ScenarioFault) -> Fault {
+        Fault::Scenario(fault)
+    }
+}
+
+impl From<Failed> for Fault {
+    ghost from_gives = { λ _ e. e ≡ Scenario scenario.WriteFault };
+
+    fn from(_failed: Failed) -> Fault {
+        Fault::Scenario(ScenarioFault::WriteFault)
+    }
+}
+
+impl From<AllocError> for Fault {
+    ghost from_gives = { λ _ e. e ≡ Scenario scenario.NoMemory };
+
+    fn from(_error: AllocError) -> Fault {
+        Fault::Scenario(ScenarioFault::NoMemory)
+    }
+}
+
+impl Fault {
+    /// The name by which the program tells it.
+    pub fn name(self) -> &'static str
+        ensures { result.now ≡ fault_name self }
+    {
+        match self {
+            Fault::Usage => "Usage",
+            Fault::NotAWord => "NotAWord",
+            Fault::Scenario(fault) => scenario_fault_name(fault),
+        }
+    }
+
+    /// The exit status: 1 for refused input, 2 for a command line, 3 for memory or a device.
+    pub fn status(self) -> u8
+        ensures { result ≡ fault_status self }
+    {
+        match self {
+            Fault::Usage => 2,
+            Fault::Scenario(
+                ScenarioFault::NoMemory | ScenarioFault::ReadFault | ScenarioFault::WriteFault,
+            ) => 3,
+            Fault::NotAWord | Fault::Scenario(_) => 1,
+        }
+    }
+}
+
+fn scenario_fault_name(fault: ScenarioFault) -> &'static str
+    ensures { result.now ≡ scenario_fault_name fault }
+{
+    match fault {
+        ScenarioFault::NotJson => "NotJson",
+        ScenarioFault::BadField => "BadField",
+        ScenarioFault::BadSignal => "BadSignal",
+        ScenarioFault::TooLarge => "TooLarge",
+        ScenarioFault::Repeated => "Repeated",
+        ScenarioFault::BadStart => "BadStart",
+        ScenarioFault::Unsettled => "Unsettled",
+        ScenarioFault::NoMemory => "NoMemory",
+        ScenarioFault::ReadFault => "ReadFault",
+        ScenarioFault::WriteFault => "WriteFault",
+    }
+}

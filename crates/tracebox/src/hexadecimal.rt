@@ -1,0 +1,30 @@
+ghost use Rattle.std.specs.Prelude.{◌≡◌, MatchOption, IfSome, true, false};
+ghost use Rattle.std.specs.Char.{is_ascii_hexdigit};
+ghost use Rattle.std.specs.List.{list_all};
+ghost use Rattle.std.specs.Str.Parse.{digits_value};
+ghost use Rattle.tracebox.specs.Asks.{is_numeral, numeral_value};
+
+/// The number of one to eight hexadecimal digits of either case. `None` for any other text, also for one with a prefix
+/// or a sign.
+
+pub(crate) fn numeral(text: &str) -> Option<u32>
+    ensures { result ≡ numeral_value text.now }
+{
+    if is_numeral(text.as_bytes()) {
+        u32::from_str_radix(text, 16).ok()
+    } else {
+        None
+    }
+}
+
+fn is_numeral(text: &[u8]) -> bool
+    ensures { result ≡ is_numeral text.now }
+{
+    1 <= text.len() && text.len() <= 8 && all_digits(text)
+}
+
+fn all_digits(text: &[u8]) -> bool
+    ensures { result ≡ list_all is_ascii_hexdigit text.now }
+{
+    text.iter().all(|byte| byte.is_ascii_hexdigit())
+}

@@ -1,0 +1,92 @@
+ghost use Rattle.std.specs.Prelude.{◌≡◌, ◌+◌, ◌<◌, ◌-◌, ◌^◌, map};
+ghost use Rattle.tracebox.specs.Faults.{fault_status};
+ghost use Rattle.tracebox.specs.Performing.{Attempts, Decodes, Helps, Performs, Says, Tells};
+
+use crate::asking::{Ask, AskFault, asked, help};
+use crate::faults::Fault;
+use crate::meanings::{put_line, write_meaning};
+use std::alloc::Global;
+use std::convert::AsStr;
+use tr_scenario::{ScenarioFault, Source, serial};
+use tr_status::{Sink, put_all};
+use tr_wait::{Word, decode};
+
+/// Does what the words of a command line ask for, of which the first is the program's name, and gives the exit status:
+/// 0, also after help, which goes to the writer; 1 for a refused input or a word that no status has, 2 for a command
+/// line that the program doesn't take, 3 where memory is refused or the reader or the writer fails. A fault goes to
+/// `faults` by its name. Where that can't be written the status stays.
+pub fn perform<T: AllocGlobal, S: AsStr, R: Source, W: Sink, E: Sink>(
+    rt: &T,
+    words: &[S],
+    reader: &mut R,
+    writer: &mut W,
+    faults: &mut E,
+) -> u8
+    requires failures { (R.shown reader.old).failures < 2 ^ 64 - 1 }
+    requires interruptions { (R.shown reader.old).interruptions + 1048576 < 2 ^ 64 }
+    requires room { W.failures writer.old < 2 ^ 64 - 1 }
+    requires faults { E.failures faults.old < 2 ^ 64 - 1 }
+    ensures { Performs R.shown W.taken W.failures E.taken E.failures (map S.text words.now) reader.old reader.new writer.old writer.new faults.old faults.new result }
+{
+    match attempt(rt.alloc(), words, reader, writer) {
+        Ok(()) => 0,
+        Err(fault) => report(fault, faults),
+    }
+}
+
+/// Writes the line of a fault, as far as the sink takes it, and gives the exit status.
+pub fn report<E: Sink>(fault: Fault, faults: &mut E) -> u8
+    requires { E.failures faults.old < 2 ^ 64 - 1 }
+    ensures status { result ≡ fault_status fault }
+    ensures told { Tells E.taken E.failures faults.old faults.new fault }
+{
+    let _ = put_line(b"tracebox: ", fault.name().as_bytes(), faults);
+    fault.status()
+}
+
+fn attempt<S: AsStr, R: Source, W: Sink>(
+    alloc: Global,
+    words: &[S],
+    reader: &mut R,
+    writer: &mut W,
+) -> Result<(), Fault>
+    requires failures { (R.shown reader.old).failures < 2 ^ 64 - 1 }
+    requires interruptions { (R.shown reader.old).interruptions + 1048576 < 2 ^ 64 }
+    requires room { W.failures writer.old < 2 ^ 64 - 1 }
+    ensures { Attempts R.shown W.taken W.failures (map S.text words.now) reader.old reader.new writer.old writer.new result }
+{
+    match asked(alloc, words) {
+        Ok(Ask::Serial) => Ok(serial(alloc, reader, writer)?),
+        Ok(Ask::Decode(word)) => write_decoded(word, writer),
+        Err(AskFault::Help) => write_help(alloc, words, writer),
+        Err(AskFault::Usage) => Err(Fault::Usage),
+        Err(AskFault::NoMemory) => Err(Fault::Scenario(ScenarioFault::NoMemory)),
+    }
+}
+
+/// Writes the status that a word has.
+fn write_decoded<W: Sink>(word: Word, writer: &mut W) -> Result<(), Fault>
+    requires { W.failures writer.old < 2 ^ 64 - 1 }
+    ensures { Decodes W.taken W.failures writer.old writer.new word result }
+{
+    match decode(word) {
+        Some(status) => Ok(write_meaning(status, writer)?),
+        None => Err(Fault::NotAWord),
+    }
+}
+
+/// Writes the help that the words want.
+fn write_help<S: AsStr, W: Sink>(alloc: Global, words: &[S], writer: &mut W) -> Result<(), Fault>
+    requires { W.failures writer.old < 2 ^ 64 - 1 }
+    ensures { Helps W.taken W.failures writer.old writer.new result }
+{
+    let text = help(alloc, words)?;
+    write_text(&text, writer)
+}
+
+fn write_text<W: Sink>(text: &str, writer: &mut W) -> Result<(), Fault>
+    requires { W.failures writer.old < 2 ^ 64 - 1 }
+    ensures { Says W.taken W.failures writer.old writer.new text.now result }
+{
+    Ok(put_all(writer, text.as_bytes())?)
+}
