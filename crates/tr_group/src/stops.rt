@@ -1,5 +1,5 @@
 ghost use Rattle.std.specs.Prelude.{◌≡◌};
-ghost use Rattle.tr_group.specs.Actions.{ignoring};
+ghost use Rattle.tr_group.specs.Actions.{ignoring, reset};
 ghost use Rattle.tr_group.specs.GroupStops.{begun, completed, is_complete, is_stopping, stop_signal};
 
 use tr_sigset::{Base, Signal};
@@ -36,6 +36,16 @@ impl Action {
             Action::Ignore => true,
             Action::Default => matches!(signal.default_action(), Base::Ignored | Base::Continue),
             Action::Catch => false,
+        }
+    }
+
+    /// What execve(2) makes of it: a caught signal has its default action, an ignored one stays ignored.
+    pub fn reset(self) -> Action
+        ensures { result ≡ reset self }
+    {
+        match self {
+            Action::Catch => Action::Default,
+            Action::Default | Action::Ignore => self,
         }
     }
 }

@@ -2,12 +2,17 @@
 use Rattle.std.specs.Prelude.{ℕ, List, map, filter, Bool, ◌&&◌, ◌==◌}
 use Rattle.tr_pending.specs.declared.instance.Instance.{Instance}
 use Rattle.tr_tracee.specs.declared.thread.Thread.{Thread}
-use Rattle.tr_tracee.specs.Marks.{masked, paused}
+use Rattle.tr_tracee.specs.Ends.{dead, execed, execing, leaving, released, unmarked}
+use Rattle.tr_tracee.specs.Marks.{joining, masked, paused, stopped}
+use Rattle.tr_tracee.specs.Stops.{interrupted, set_options, told_nothing, traced_by, untraced}
 use Rattle.tr_model.specs.declared.rows.Group.{Group}
 use Rattle.tr_model.specs.declared.rows.Target.{Target}
 use Rattle.tr_model.specs.declared.rows.Waiting.{Waiting}
 use Rattle.tr_model.specs.Deaths.{dying_with}
 use Rattle.tr_model.specs.GroupStops.{beginning, ended_stop, full}
+use Rattle.tr_model.specs.Execs.{with_reset}
+use Rattle.tr_model.specs.Sends.{with_action}
+use Rattle.tr_model.specs.Waits.{no_note}
 use Rattle.tr_model.specs.Tables.{Table, owner_in, same_target}
 use Rattle.tr_sigset.specs.Signals.{is_stop}
 use Rattle.tr_table.specs.declared.waiting.Flush.{Flush}
@@ -20,12 +25,28 @@ use Rattle.tr_table.specs.declared.threads.Own.TheVariants as thread
 abbrev pub own : Own → Thread → Thread
 own (thread.Mask set) t = masked set t
 own (thread.Pausing p) t = paused p t
+own thread.Join t = joining t
+own thread.Stop t = stopped t
+own thread.Unmark t = unmarked t
+own (thread.Leave e) t = leaving e t
+own thread.Die t = dead t
+own thread.Release t = released t
+own thread.WithdrawReport t = told_nothing t
+own (thread.TraceBy r) t = traced_by r t
+own (thread.SetOptions o) t = set_options o t
+own thread.Interrupt t = interrupted t
+own (thread.Detach in_effect) t = untraced in_effect t
+own thread.BeginExec t = execing t
+own thread.EndExec t = execed t
 
 abbrev pub regrouped : GroupChange → Group → Group
 regrouped (group.Begin s) x = beginning s x
 regrouped group.EndStop x = ended_stop x
 regrouped group.Complete x = full x
 regrouped (group.Die e) x = dying_with e x
+regrouped (group.Act s how) x = with_action s how x
+regrouped group.DropNote x = no_note x
+regrouped group.ResetActions x = with_reset x
 
 -- the queue of a target, among all that waits
 abbrev pub queue_in : Target → List Waiting → List Instance

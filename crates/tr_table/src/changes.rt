@@ -7,7 +7,7 @@ ghost use Rattle.tr_model.specs.Tables.{action_of, all_dead, has_live, has_stop_
 ghost use Rattle.tr_pending.specs.Waiting.{best_of, is_waiting};
 ghost use Rattle.tr_tracee.specs.Ends.{broken};
 ghost use Rattle.tr_tracee.specs.Marks.{cont_noted, marked};
-ghost use Rattle.tr_tracee.specs.Stops.{entered_as};
+ghost use Rattle.tr_tracee.specs.Stops.{entered_as, reported};
 ghost use Rattle.tr_tracee.specs.Threads.{only, throughout};
 ghost use Rattle.tr_group.specs.Members.{continued_by};
 ghost use Rattle.tr_table.specs.Changes.{is_flushed, own, regrouped};
@@ -88,6 +88,15 @@ impl Table {
     {
         self.raised += 1;
         self.threads.enter(id, self.raised, stop);
+    }
+
+    /// The next report, on a thread.
+    pub fn report(&mut self, id: u32, status: &Status)
+        requires { self.old.table.raised + 1 < 2 ^ 64 }
+        ensures { self.new ≡ record self.old { table = record self.old.table { threads = changed id (reported (self.old.table.raised + 1) status.now) self.old.table.threads; raised = self.old.table.raised + 1 } } }
+    {
+        self.raised += 1;
+        self.threads.report(id, self.raised, status);
     }
 
     /// What happens to the record of a group.

@@ -1,6 +1,7 @@
 ghost use Rattle.std.specs.Prelude.{◌≡◌, ◌+◌, ◌-◌, ◌==◌, ◌||◌, filter, map, not, option_copied, slice_index_or};
 ghost use Rattle.std.specs.List.{list_any};
 ghost use Rattle.tr_tracee.specs.Threads.{in_group};
+ghost use Rattle.tr_group.specs.Actions.{reset};
 ghost use Rattle.tr_group.specs.declared.stops.Action.TheVariants.{Default};
 ghost use Rattle.tr_model.specs.Moves.{group_changed, only_group, with_note};
 ghost use Rattle.tr_model.specs.Tables.{actions_of, end_of, group_in, stop_of};
@@ -24,6 +25,12 @@ pub enum GroupChange {
     Complete,
     /// It begins to die, with this end unless it is dying already.
     Die(End),
+    /// It has a new action of a signal.
+    Act(Signal, Action),
+    /// Its note for the starter goes.
+    DropNote,
+    /// Its caught actions become default ones, as by execve(2).
+    ResetActions,
 }
 
 fn changed_by(change: &GroupChange, group: &Group) -> Group
@@ -38,6 +45,9 @@ fn changed_by(change: &GroupChange, group: &Group) -> Group
         }
         GroupChange::Complete => changed.group_stop.complete(),
         GroupChange::Die(end) => die(&mut changed, end),
+        GroupChange::Act(signal, action) => act(&mut changed, *signal, *action),
+        GroupChange::DropNote => changed.note = None,
+        GroupChange::ResetActions => reset(&mut changed.actions),
     }
     changed
 }
@@ -50,6 +60,21 @@ fn die(group: &mut Group, end: &End)
     }
     group.group_stop = GroupStop::No;
     group.note = None;
+}
+
+#[tactic(auto, using(crate::proofs::SetActions::set_at_place))]
+fn act(group: &mut Group, signal: Signal, action: Action)
+    ensures { group.new ≡ regrouped (GroupChange.Act signal action) group.old }
+{
+    group.actions[usize::from(signal.number() - 1)] = action;
+}
+
+fn reset(actions: &mut [Action; 64])
+    ensures { actions.new ≡ map reset actions.old }
+{
+    for action in actions.iter_mut() {
+        *action = action.reset();
+    }
 }
 
 fn changed_in(tgid: u32, change: &GroupChange, group: &Group) -> Group

@@ -6,7 +6,7 @@ ghost use Rattle.tr_tracee.specs.Threads.{in_group, is_traced, only, throughout}
 ghost use Rattle.tr_tracee.specs.Ends.{broken};
 ghost use Rattle.tr_model.specs.declared.fates.Fate.TheVariants.{Flushed};
 ghost use Rattle.tr_table.specs.Held.{helds, one};
-ghost use Rattle.tr_tracee.specs.Stops.{entered_as};
+ghost use Rattle.tr_tracee.specs.Stops.{entered_as, reported};
 ghost use Rattle.tr_group.specs.Members.{count_in, member, put_member};
 ghost use Rattle.tr_model.specs.Moves.{changed, dropped, endings, ends, in_place};
 ghost use Rattle.tr_model.specs.Tables.{owner_in, thread_in};
@@ -19,7 +19,8 @@ use tr_group::Members;
 use tr_model::{Ending, Fate, Target};
 use tr_pending::Instance;
 use tr_sigset::{SigSet, Signal};
-use tr_tracee::{End, Stop, Thread};
+use tr_tracee::{End, Options, Stop, Thread, Trace};
+use tr_wait::Status;
 
 /// The threads of a table, in table order.
 #[derive(Drop)]
@@ -43,6 +44,32 @@ pub enum Own {
     Mask(SigSet),
     /// It begins or ends a pause.
     Pausing(bool),
+    /// It takes part in the group-stop: its stop mark is served.
+    Join,
+    /// It stops, if it runs.
+    Stop,
+    /// It loses its marks and ends its pause.
+    Unmark,
+    /// It leaves with this end, if it runs.
+    Leave(End),
+    /// It dies, if it leaves and has no exit stop before it.
+    Die,
+    /// It loses its tracer and its report, if it is dead.
+    Release,
+    /// It has no report any more.
+    WithdrawReport,
+    /// It is traced from now on, unless somebody traces it.
+    TraceBy(Trace),
+    /// It has these options from now on, if somebody traces it.
+    SetOptions(Options),
+    /// Its trap mark is set.
+    Interrupt,
+    /// Its tracing ends, unless it is in a ptrace-stop; the value says whether a group-stop is in effect.
+    Detach(bool),
+    /// It waits in execve(2), if it runs.
+    BeginExec,
+    /// It runs again, if it waited in execve(2).
+    EndExec,
 }
 
 impl Members for Threads {
@@ -126,6 +153,13 @@ impl Threads {
     {
         enter_first(&mut self.list, id, number, stop);
     }
+
+    /// The thread with the id has the report of this number.
+    pub(crate) fn report(&mut self, id: u32, number: u64, status: &Status)
+        ensures { self.new ≡ changed id (reported number status.now) self.old }
+    {
+        report_first(&mut self.list, id, number, status);
+    }
 }
 
 fn changed_by(change: &Own, thread: &Thread) -> Thread
@@ -135,6 +169,19 @@ fn changed_by(change: &Own, thread: &Thread) -> Thread
     match change {
         Own::Mask(set) => changed.set_mask(*set),
         Own::Pausing(pausing) => changed.set_pausing(*pausing),
+        Own::Join => changed.join(),
+        Own::Stop => changed.stop(),
+        Own::Unmark => changed.unmark(),
+        Own::Leave(end) => changed.leave(end),
+        Own::Die => changed.die(),
+        Own::Release => changed.release(),
+        Own::WithdrawReport => changed.withdraw_report(),
+        Own::TraceBy(trace) => changed.trace_by(trace),
+        Own::SetOptions(options) => changed.set_options(options),
+        Own::Interrupt => changed.interrupt(),
+        Own::Detach(in_effect) => changed.detach(*in_effect),
+        Own::BeginExec => changed.begin_exec(),
+        Own::EndExec => changed.end_exec(),
     }
     changed
 }
@@ -171,6 +218,25 @@ fn enter_first(threads: &mut [Thread], id: u32, number: u64, stop: &Stop)
     for i in 0..threads.len() {
         if threads[i].id == id {
             threads[i] = entered(number, stop, &threads[i]);
+            return;
+        }
+    }
+}
+
+fn reported(number: u64, status: &Status, thread: &Thread) -> Thread
+    ensures { result ≡ reported number status.now thread.now }
+{
+    let mut changed = *thread;
+    changed.set_report(number, status);
+    changed
+}
+
+fn report_first(threads: &mut [Thread], id: u32, number: u64, status: &Status)
+    ensures { threads.new ≡ changed id (reported number status.now) threads.old }
+{
+    for i in 0..threads.len() {
+        if threads[i].id == id {
+            threads[i] = reported(number, status, &threads[i]);
             return;
         }
     }

@@ -1,5 +1,6 @@
 ghost use Rattle.std.specs.Prelude.{◌≡◌};
-ghost use Rattle.tr_tracee.specs.Lives.{held, is_dead, is_event_stop, is_free, is_in_stop, is_live, serves_marks, status_of_end, status_of_stop, was_told};
+ghost use Rattle.tr_tracee.specs.Lives.{held, is_dead, is_event_stop, is_execing, is_free, is_in_event_stop, is_in_stop, is_leaving, is_live, is_stopped, message, serves_marks, status_of_end, status_of_stop, was_told};
+ghost use Rattle.tr_tracee.specs.Stops.{may_enter};
 
 use tr_pending::Instance;
 use tr_sigset::Signal;
@@ -106,6 +107,57 @@ impl Life {
         ensures { result ≡ is_in_stop self.now }
     {
         matches!(self, Life::InStop(_))
+    }
+
+    /// Whether it is stopped in a group-stop, and nobody traces it.
+    pub fn is_stopped(&self) -> bool
+        ensures { result ≡ is_stopped self.now }
+    {
+        matches!(self, Life::Stopped)
+    }
+
+    /// Whether it is in a `PTRACE_EVENT_STOP`.
+    pub fn is_in_event_stop(&self) -> bool
+        ensures { result ≡ is_in_event_stop self.now }
+    {
+        matches!(self, Life::InStop(Stop::Event(_)))
+    }
+
+    /// Whether it leaves.
+    pub fn is_leaving(&self) -> bool
+        ensures { result ≡ is_leaving self.now }
+    {
+        matches!(self, Life::Leaving { .. })
+    }
+
+    /// Whether it waits in execve(2) for the deaths of the other threads of its group.
+    pub fn is_execing(&self) -> bool
+        ensures { result ≡ is_execing self.now }
+    {
+        matches!(self, Life::Execing)
+    }
+
+    /// What `PTRACE_GETEVENTMSG` gives at its stop: the new thread's id, the id that it had before execve(2), or the
+    /// word of its end. `None` elsewhere.
+    pub fn message(&self) -> Option<u32>
+        ensures { result ≡ message self.now }
+    {
+        match self {
+            Life::InStop(Stop::Clone(message) | Stop::Exec(message) | Stop::Exit(message)) => {
+                Some(*message)
+            }
+            _ => None,
+        }
+    }
+
+    /// Whether it may enter a ptrace-stop: it runs, is stopped or listens, or leaves and wasn't told to.
+    pub fn may_enter(&self) -> bool
+        ensures { result ≡ may_enter self.now }
+    {
+        matches!(
+            self,
+            Life::Free | Life::Stopped | Life::Listening | Life::Leaving { told: false, .. }
+        )
     }
 
     /// Whether it serves marks: it runs or listens.

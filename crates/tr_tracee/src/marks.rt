@@ -1,5 +1,5 @@
 ghost use Rattle.std.specs.Prelude.{◌≡◌};
-ghost use Rattle.tr_tracee.specs.Marks.{cont_noted, cont_noted_life, continued, continued_life, marked, masked, noted, paused};
+ghost use Rattle.tr_tracee.specs.Marks.{cont_noted, cont_noted_life, continued, continued_life, joining, marked, masked, noted, paused, stopped, stopped_life};
 
 use crate::life::{Life, Stop};
 use crate::thread::Thread;
@@ -36,6 +36,21 @@ impl Thread {
         self.stop_mark = self.stop_mark || (self.life.is_live() && !self.joined);
     }
 
+    /// Takes part in the group-stop: its stop mark is served.
+    pub fn join(&mut self)
+        ensures { self.new ≡ joining self.old }
+    {
+        self.stop_mark = false;
+        self.joined = true;
+    }
+
+    /// Stops, if it runs: a thread that nobody traces serves its stop mark so.
+    pub fn stop(&mut self)
+        ensures { self.new ≡ stopped self.old }
+    {
+        self.life = stopped_from(&self.life);
+    }
+
     /// Sets the note mark of a live seized thread, since a SIGCONT came.
     pub fn note(&mut self)
         ensures { self.new ≡ noted self.old }
@@ -57,6 +72,15 @@ impl Thread {
         ensures { self.new ≡ cont_noted self.old }
     {
         self.life = cont_noted_at(&self.life);
+    }
+}
+
+fn stopped_from(life: &Life) -> Life
+    ensures { result ≡ stopped_life life.now }
+{
+    match life {
+        Life::Free => Life::Stopped,
+        _ => *life,
     }
 }
 

@@ -1,15 +1,48 @@
 ghost use Rattle.std.specs.Prelude.{◌≡◌, ◌&&◌, nat_le, if◌then◌else◌, Some, None};
 ghost use Rattle.tr_tracee.specs.Lives.{end_of_word, held};
-ghost use Rattle.tr_tracee.specs.Stops.{ends_part, entered_as, interrupted, listening, listening_life, restarted, restarted_life, untraced, untraced_life, without_trace};
+ghost use Rattle.tr_tracee.specs.Stops.{ends_part, entered_as, interrupted, listening, listening_life, may_enter, or_else, reported, restarted, restarted_life, set_options, told_nothing, traced_by, untraced, untraced_life, with_options, without_trace};
 
 use crate::life::{End, Life, Stop};
-use crate::thread::{Report, Thread};
+use crate::thread::{Options, Report, Thread, Trace};
 use tr_pending::Instance;
 use tr_sigset::Signal;
+use tr_wait::Status;
 
 // Ptrace-stops and restarts of one thread.
 
 impl Thread {
+    /// Is traced from now on, unless somebody traces it: `PTRACE_ATTACH`, `PTRACE_SEIZE`. Its report is withdrawn.
+    pub fn trace_by(&mut self, trace: &Trace)
+        ensures { self.new ≡ traced_by trace.now self.old }
+    {
+        self.trace = traced_from(&self.trace, trace);
+        self.report = None;
+    }
+
+    /// Has these options from now on, if somebody traces it: `PTRACE_SETOPTIONS`.
+    pub fn set_options(&mut self, options: &Options)
+        ensures { self.new ≡ set_options options.now self.old }
+    {
+        self.trace = with_options(options, &self.trace);
+    }
+
+    /// Has the report of this number, with this status.
+    pub fn set_report(&mut self, number: u64, status: &Status)
+        ensures { self.new ≡ reported number status.now self.old }
+    {
+        self.report = Some(Report {
+            number,
+            status: *status,
+        });
+    }
+
+    /// Has no report from now on: a wait consumed it, or it was withdrawn.
+    pub fn withdraw_report(&mut self)
+        ensures { self.new ≡ told_nothing self.old }
+    {
+        self.report = None;
+    }
+
     /// Enters a ptrace-stop, with the next report's number: ptrace(2). The trap mark goes, and at
     /// `PTRACE_EVENT_STOP` the note mark too. Whether it may enter is the caller's to know.
     pub fn enter(&mut self, stop: &Stop, number: u64)
@@ -77,8 +110,29 @@ impl Thread {
     }
 }
 
+fn traced_from(old: &Option<Trace>, trace: &Trace) -> Option<Trace>
+    ensures { result ≡ or_else old.now trace.now }
+{
+    match old {
+        Some(old) => Some(*old),
+        None => Some(*trace),
+    }
+}
+
+fn with_options(options: &Options, trace: &Option<Trace>) -> Option<Trace>
+    ensures { result ≡ with_options options.now trace.now }
+{
+    match trace {
+        Some(trace) => Some(Trace {
+            options: *options,
+            ..*trace
+        }),
+        None => None,
+    }
+}
+
 /// The end that an exit stop's word tells.
-fn end_of_word(word: u32) -> End
+pub(crate) fn end_of_word(word: u32) -> End
     ensures { result ≡ end_of_word word }
 {
     match signal_of(word) {

@@ -1,5 +1,5 @@
 ghost use Rattle.std.specs.Prelude.{◌≡◌};
-ghost use Rattle.tr_tracee.specs.Threads.{has_mark, is_leader, is_ready_to_take, is_traced, no_options, options_of, seized};
+ghost use Rattle.tr_tracee.specs.Threads.{has_mark, is_leader, is_ready_to_take, is_traced, is_tracee_of, no_options, options_of, seized};
 
 use crate::life::Life;
 use tr_sigset::SigSet;
@@ -78,6 +78,16 @@ impl Thread {
         ensures { result ≡ is_traced self.now }
     {
         self.trace.is_some()
+    }
+
+    /// Whether this actor traces it.
+    pub fn is_tracee_of(&self, actor: u32) -> bool
+        ensures { result ≡ is_tracee_of actor self.now }
+    {
+        match &self.trace {
+            Some(trace) => trace.tracer == actor,
+            None => false,
+        }
     }
 
     /// Whether it is traced by `PTRACE_SEIZE`.
