@@ -10,9 +10,10 @@ use Rattle.tr_tracee.specs.declared.life.Life.{Life}
 use Rattle.tr_tracee.specs.declared.life.Life.TheVariants as life
 use Rattle.tr_tracee.specs.declared.life.Stop.TheVariants as stop
 use Rattle.tr_tracee.specs.declared.thread.Thread.{Thread}
-use Rattle.tr_tracee.specs.Ends.{broken}
-use Rattle.tr_tracee.specs.Lives.{held}
-use Rattle.tr_tracee.specs.Marks.{cont_noted, cont_noted_life, continued_life, marked}
+use Rattle.tr_tracee.specs.Ends.{broken, dead_life, execed_life, execing_life, leaving_life}
+use Rattle.tr_tracee.specs.Lives.{held, is_dead, is_in_stop}
+use Rattle.tr_tracee.specs.Marks.{cont_noted, cont_noted_life, continued_life, marked, stopped_life}
+use Rattle.tr_tracee.specs.Stops.{untraced_life, without_trace}
 use Rattle.tr_tracee.specs.Threads.{only, throughout}
 use Rattle.tr_group.specs.Members.{continued_by}
 use Rattle.tr_model.specs.declared.fates.Fate.{Fate}
@@ -61,9 +62,59 @@ helds_cont_noted g ts = helds_same g cont_noted (λ t. held_cont_noted t.life) t
 pub helds_continued : (g : ℕ) (b : Bool) (ts : List Thread) → helds (map (throughout g (continued_by b)) ts) ≡ helds ts
 helds_continued g b ts = helds_same g (continued_by b) (held_continued_by b) ts
 
+held_stopped : (l : Life) → is_some (held (stopped_life l)) ≡ is_some (held l)
+held_stopped life.Free = refl
+held_stopped _ = refl
+
+held_leaving : (e : End) (l : Life) → is_some (held (leaving_life e l)) ≡ is_some (held l)
+held_leaving e life.Free = refl
+held_leaving e _ = refl
+
+held_dead : (l : Life) → is_some (held (dead_life l)) ≡ is_some (held l)
+held_dead (life.Leaving e true) = refl
+held_dead (life.Leaving e false) = refl
+held_dead _ = refl
+
+held_released : (t : Thread) (b : Bool) → is_some (held (if b then record t { trace = None; report = None } else t).life) ≡ is_some (held t.life)
+held_released t true = refl
+held_released t false = refl
+
+held_untraced_life : (in_effect : Bool) (l : Life) → is_some (held (untraced_life in_effect l)) ≡ is_some (held l)
+held_untraced_life true life.Free = refl
+held_untraced_life false life.Free = refl
+held_untraced_life true life.Listening = refl
+held_untraced_life false life.Listening = refl
+held_untraced_life b (life.Leaving e told) = refl
+held_untraced_life b _ = refl
+
+held_untraced : (in_effect : Bool) (t : Thread) (b : Bool) → is_some (held (if b then t else without_trace in_effect t).life) ≡ is_some (held t.life)
+held_untraced in_effect t true = refl
+held_untraced in_effect t false = held_untraced_life in_effect t.life
+
+held_execing : (l : Life) → is_some (held (execing_life l)) ≡ is_some (held l)
+held_execing life.Free = refl
+held_execing _ = refl
+
+held_execed : (l : Life) → is_some (held (execed_life l)) ≡ is_some (held l)
+held_execed life.Execing = refl
+held_execed _ = refl
+
 held_own : (c : Own) (t : Thread) → is_some (held (own c t).life) ≡ is_some (held t.life)
 held_own (thread.Mask set) t = refl
 held_own (thread.Pausing p) t = refl
+held_own thread.Join t = refl
+held_own thread.Stop t = held_stopped t.life
+held_own thread.Unmark t = refl
+held_own (thread.Leave e) t = held_leaving e t.life
+held_own thread.Die t = held_dead t.life
+held_own thread.Release t = held_released t (is_dead t.life)
+held_own thread.WithdrawReport t = refl
+held_own (thread.TraceBy r) t = refl
+held_own (thread.SetOptions o) t = refl
+held_own thread.Interrupt t = refl
+held_own (thread.Detach in_effect) t = held_untraced in_effect t (is_in_stop t.life)
+held_own thread.BeginExec t = held_execing t.life
+held_own thread.EndExec t = held_execed t.life
 
 pub helds_own : (id : ℕ) (c : Own) (ts : List Thread) → helds (map (only id (own c)) ts) ≡ helds ts
 helds_own id c [] = refl
@@ -136,6 +187,9 @@ regrouped_tgid (group.Begin s) x = refl
 regrouped_tgid group.EndStop x = refl
 regrouped_tgid group.Complete x = refl
 regrouped_tgid (group.Die e) x = refl
+regrouped_tgid (group.Act s how) x = refl
+regrouped_tgid group.DropNote x = refl
+regrouped_tgid group.ResetActions x = refl
 
 pub regrouped_tgids : (g : ℕ) (c : GroupChange) (xs : List Group) → map (λ x. x.tgid) (map (only_group g (regrouped c)) xs) ≡ map (λ x. x.tgid) xs
 regrouped_tgids g c [] = refl
@@ -186,3 +240,14 @@ fewer_without n (w ∷ ws) = go (w.instance.n == n) (fewer_without n ws)
     go : (b : Bool) → length (without_instance n ws) ≤ length ws → length (if b then ws else w ∷ without_instance n ws) ≤ suc (length ws)
     go true h = omega arith
     go false h = omega (arith, h)
+
+pub helds_kept : (p : Thread → Bool) (ts : List Thread) → helds (filter p ts) ≤ helds ts
+helds_kept p [] = omega arith
+helds_kept p (t ∷ ts) = go (p t) (helds_kept p ts)
+  where
+    go : (b : Bool) → helds (filter p ts) ≤ helds ts → helds (if b then t ∷ filter p ts else filter p ts) ≤ one (is_some (held t.life)) + helds ts
+    go true h = omega (arith, h)
+    go false h = omega (arith, h)
+
+pub fewer_kept : {A : Type 0} (p : A → Bool) (xs : List A) → length (filter p xs) ≤ length xs
+fewer_kept p xs = let h = filter_halves p xs in omega arith

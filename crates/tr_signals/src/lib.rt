@@ -2,11 +2,11 @@
 #![tactic(auto)]
 
 mod kills;
-mod log;
-mod masks;
-mod moves;
-mod sends;
-mod stops;
+pub mod log;
+pub mod masks;
+pub mod moves;
+pub mod sends;
+pub mod stops;
 mod takes;
 
 pub use kills::{check_kill, check_sigqueue, check_tgkill, kill, sigqueue, tgkill};

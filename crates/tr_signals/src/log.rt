@@ -20,7 +20,7 @@ pub struct Made {
 }
 
 /// The choice of an entry that the model leaves none.
-pub(crate) const NO_CHOICE: Choice = Choice {
+pub const NO_CHOICE: Choice = Choice {
     thread: None,
     instance: None,
     report: None,
@@ -60,7 +60,7 @@ fn grow(table: &mut Table, log: &mut Log, moves: usize) -> Result<(), AllocError
 
 /// Reserves places for all that a step of n moves may log or queue, with one more move for each group. Where memory is
 /// refused, or the numbers are used up, the table stays as it was.
-pub(crate) fn reserve(table: &mut Table, alloc: Global, n: usize) -> Result<Log, AllocError>
+pub fn reserve(table: &mut Table, alloc: Global, n: usize) -> Result<Log, AllocError>
     ensures room { IfOk result (λ l. Room table.new l (length (tgids table.old.table) + n)) }
     ensures shows { IfOk result (λ l. Shows table.new l (begin table.old.table)) }
     ensures same { table.new.table ≡ table.old.table }

@@ -39,7 +39,7 @@ pub(crate) fn can_take(table: &Table, thread: &Thread) -> bool
 }
 
 /// Why a thread can't do an operation of its own: it doesn't run, or has a mark to serve or a signal to take first.
-pub(crate) fn script(table: &Table, thread: &Thread) -> Option<Refusal>
+pub fn script(table: &Table, thread: &Thread) -> Option<Refusal>
     ensures { result ≡ first (script table.now.table thread.now) }
 {
     if !thread.life.is_free() || thread.pausing {
@@ -51,7 +51,7 @@ pub(crate) fn script(table: &Table, thread: &Thread) -> Option<Refusal>
     None
 }
 
-fn check_script(table: &Table, tid: u32) -> Result<Checked, Refusal>
+pub fn check_script(table: &Table, tid: u32) -> Result<Checked, Refusal>
     ensures { result ≡ script_checked table.now.table tid }
 {
     let Some(thread) = table.find(tid) else {

@@ -1,6 +1,7 @@
-ghost use Rattle.std.specs.Prelude.{◌≡◌, ◌+◌, ◌≤◌, ◌<◌, ℕ, false};
+ghost use Rattle.std.specs.Prelude.{◌≡◌, ◌+◌, ◌≤◌, ◌<◌, ◌==◌, ℕ, false, length};
 ghost use Rattle.tr_model.specs.declared.fates.Fate.TheVariants.{Flushed};
-ghost use Rattle.tr_model.specs.Moves.{Work, accept_as, alter, become, enqueue, entered_now, note, only_group, pulled, regroup, tell_dying, tell_killed};
+ghost use Rattle.tr_model.specs.Moves.{Work, accept_as, alter, become, drop_empty, end_waiting, enqueue, enter, entered_now, note, only_group, pulled, raise, regroup, remove_dead, report_death, tell_dying, tell_killed};
+ghost use Rattle.tr_model.specs.Tables.{same_target};
 ghost use Rattle.tr_model.specs.Sends.{flush_in};
 ghost use Rattle.tr_model.specs.Takes.{deliver};
 ghost use Rattle.tr_tracee.specs.declared.life.Stop.TheVariants as stop;
@@ -19,11 +20,11 @@ use tr_table::{Flush, GroupChange, Log, Own, Table};
 use tr_tracee::{End, Stop, Thread};
 use tr_wait::Status;
 
-// The small moves of a step: each makes of table and log what the model's move makes of the step under way. None takes
-// memory.
+// The small moves of a step: each makes of table and log what the model's move makes of the step under way, and uses up
+// the places that it needs. None takes memory.
 
 #[tactic(auto, using(crate::proofs::Rooms::helds_marked))]
-pub(crate) fn mark_all(table: &mut Table, tgid: u32)
+pub fn mark_all(table: &mut Table, tgid: u32)
     ensures shows { (l : Log) (w : Work) → Shows table.old l w → Shows table.new l (alter (throughout tgid marked) w) }
     ensures room { (l : Log) (n : ℕ) → Room table.old l n → Room table.new l n }
     ensures tgids { tgids table.new.table ≡ tgids table.old.table }
@@ -32,7 +33,7 @@ pub(crate) fn mark_all(table: &mut Table, tgid: u32)
 }
 
 #[tactic(auto, using(crate::proofs::Rooms::helds_cont_noted))]
-pub(crate) fn note_cont(table: &mut Table, tgid: u32)
+pub fn note_cont(table: &mut Table, tgid: u32)
     ensures shows { (l : Log) (w : Work) → Shows table.old l w → Shows table.new l (alter (throughout tgid cont_noted) w) }
     ensures room { (l : Log) (n : ℕ) → Room table.old l n → Room table.new l n }
     ensures tgids { tgids table.new.table ≡ tgids table.old.table }
@@ -41,7 +42,7 @@ pub(crate) fn note_cont(table: &mut Table, tgid: u32)
 }
 
 #[tactic(auto, using(crate::proofs::Rooms::helds_continued))]
-pub(crate) fn continue_threads(table: &mut Table, tgid: u32, in_effect: bool)
+pub fn continue_threads(table: &mut Table, tgid: u32, in_effect: bool)
     ensures shows { (l : Log) (w : Work) → Shows table.old l w → Shows table.new l (alter (throughout tgid (continued_by in_effect)) w) }
     ensures room { (l : Log) (n : ℕ) → Room table.old l n → Room table.new l n }
     ensures tgids { tgids table.new.table ≡ tgids table.old.table }
@@ -50,7 +51,7 @@ pub(crate) fn continue_threads(table: &mut Table, tgid: u32, in_effect: bool)
 }
 
 #[tactic(auto, using(crate::proofs::Rooms::helds_own))]
-pub(crate) fn change_thread(table: &mut Table, id: u32, change: &Own)
+pub fn change_thread(table: &mut Table, id: u32, change: &Own)
     ensures shows { (l : Log) (w : Work) → Shows table.old l w → Shows table.new l (alter (only id (own change.now)) w) }
     ensures room { (l : Log) (n : ℕ) → Room table.old l n → Room table.new l n }
     ensures tgids { tgids table.new.table ≡ tgids table.old.table }
@@ -59,7 +60,7 @@ pub(crate) fn change_thread(table: &mut Table, id: u32, change: &Own)
 }
 
 #[tactic(auto, using(crate::proofs::Rooms::regrouped_tgids))]
-pub(crate) fn change_group(table: &mut Table, tgid: u32, change: &GroupChange)
+pub fn change_group(table: &mut Table, tgid: u32, change: &GroupChange)
     ensures shows { (l : Log) (w : Work) → Shows table.old l w → Shows table.new l (regroup (only_group tgid (regrouped change.now)) w) }
     ensures room { (l : Log) (n : ℕ) → Room table.old l n → Room table.new l n }
     ensures tgids { tgids table.new.table ≡ tgids table.old.table }
@@ -68,7 +69,7 @@ pub(crate) fn change_group(table: &mut Table, tgid: u32, change: &GroupChange)
 }
 
 #[tactic(auto, using(crate::proofs::Rooms::noted_tgids))]
-pub(crate) fn note(table: &mut Table, log: &Log, tgid: u32, status: &Status)
+pub fn note(table: &mut Table, log: &Log, tgid: u32, status: &Status)
     requires { Room table.old log.now 1 }
     ensures shows { (l : Log) (w : Work) → Shows table.old l w → Shows table.new l (note tgid status.now w) }
     ensures room { (l : Log) (n : ℕ) → Room table.old l (n + 1) → Room table.new l n }
@@ -77,7 +78,7 @@ pub(crate) fn note(table: &mut Table, log: &Log, tgid: u32, status: &Status)
     table.note(tgid, status);
 }
 
-pub(crate) fn accept_as(table: &mut Table, log: &mut Log, fate: Fate)
+pub fn accept_as(table: &mut Table, log: &mut Log, fate: Fate)
     requires { Room table.old log.old 1 }
     ensures shows { (w : Work) → Shows table.old log.old w → Shows table.new log.new (accept_as fate w) }
     ensures room { (n : ℕ) → Room table.old log.old (n + 1) → Room table.new log.new n }
@@ -87,7 +88,7 @@ pub(crate) fn accept_as(table: &mut Table, log: &mut Log, fate: Fate)
     log.ended.push_reserved(Ending { number, fate });
 }
 
-pub(crate) fn enqueue(table: &mut Table, log: &Log, signal: Signal, info: &Info, target: Target)
+pub fn enqueue(table: &mut Table, log: &Log, signal: Signal, info: &Info, target: Target)
     requires { Room table.old log.now 1 }
     ensures shows { (l : Log) (w : Work) → Shows table.old l w → Shows table.new l (enqueue signal info.now target w) }
     ensures room { (l : Log) (n : ℕ) → Room table.old l (n + 1) → Room table.new l n }
@@ -96,7 +97,7 @@ pub(crate) fn enqueue(table: &mut Table, log: &Log, signal: Signal, info: &Info,
     table.enqueue(signal, info, target);
 }
 
-pub(crate) fn flush(table: &mut Table, log: &mut Log, tgid: u32, flush: &Flush)
+pub fn flush(table: &mut Table, log: &mut Log, tgid: u32, flush: &Flush)
     requires { Room table.old log.old 0 }
     ensures shows { (w : Work) → Shows table.old log.old w → Shows table.new log.new (flush_in tgid (flushes flush.now) w) }
     ensures room { (n : ℕ) → Room table.old log.old n → Room table.new log.new n }
@@ -105,7 +106,7 @@ pub(crate) fn flush(table: &mut Table, log: &mut Log, tgid: u32, flush: &Flush)
     table.flush(tgid, flush, &mut log.ended);
 }
 
-pub(crate) fn deliver(table: &mut Table, log: &mut Log, n: u64)
+pub fn deliver(table: &mut Table, log: &mut Log, n: u64)
     requires { Room table.old log.old 0 }
     ensures shows { (w : Work) → Shows table.old log.old w → Shows table.new log.new (deliver n w) }
     ensures room { (n : ℕ) → Room table.old log.old n → Room table.new log.new n }
@@ -114,7 +115,7 @@ pub(crate) fn deliver(table: &mut Table, log: &mut Log, n: u64)
     table.deliver(n, &mut log.ended);
 }
 
-pub(crate) fn hold(table: &mut Table, log: &Log, thread: &Thread, instance: &Instance)
+pub fn hold(table: &mut Table, log: &Log, thread: &Thread, instance: &Instance)
     requires { Room table.old log.now 1 }
     ensures shows { (l : Log) (w : Work) → Shows table.old l w → Shows table.new l (entered_now (stop.Signal instance.now false) thread.now (pulled instance.now w)) }
     ensures room { (l : Log) (n : ℕ) → Room table.old l (n + 1) → Room table.new l n }
@@ -128,7 +129,85 @@ pub(crate) fn hold(table: &mut Table, log: &Log, thread: &Thread, instance: &Ins
     table.enter(thread.id, &stop);
 }
 
-pub(crate) fn leave(table: &mut Table, log: &mut Log, tgid: u32, kill: bool, end: &End)
+fn enter_now(table: &mut Table, log: &Log, thread: &Thread, stop: &Stop)
+    requires { Room table.old log.now 1 }
+    ensures shows { (l : Log) (w : Work) → Shows table.old l w → Shows table.new l (entered_now stop.now thread.now w) }
+    ensures room { (l : Log) (n : ℕ) → Room table.old l (n + 1) → Room table.new l n }
+    ensures tgids { tgids table.new.table ≡ tgids table.old.table }
+{
+    table.enter(thread.id, stop);
+}
+
+/// A thread enters a ptrace-stop, other than a signal-delivery-stop, if it may.
+pub fn enter(table: &mut Table, log: &Log, id: u32, stop: &Stop)
+    requires { Room table.old log.now 1 }
+    ensures shows { (l : Log) (w : Work) → Shows table.old l w → Shows table.new l (enter id stop.now w) }
+    ensures room { (l : Log) (n : ℕ) → Room table.old l (n + 1) → Room table.new l n }
+    ensures tgids { tgids table.new.table ≡ tgids table.old.table }
+{
+    let Some(thread) = table.find(id) else {
+        return;
+    };
+    if thread.life.may_enter() {
+        let thread = *thread;
+        enter_now(table, log, &thread, stop);
+    }
+}
+
+fn raise(table: &mut Table, log: &Log, thread: &Thread, status: &Status)
+    requires { Room table.old log.now 1 }
+    ensures shows { (l : Log) (w : Work) → Shows table.old l w → Shows table.new l (raise thread.now status.now w) }
+    ensures room { (l : Log) (n : ℕ) → Room table.old l (n + 1) → Room table.new l n }
+    ensures tgids { tgids table.new.table ≡ tgids table.old.table }
+{
+    table.report(thread.id, status);
+}
+
+/// The report of a dead thread's death.
+pub fn report_death(table: &mut Table, log: &Log, id: u32, end: &End)
+    requires { Room table.old log.now 1 }
+    ensures shows { (l : Log) (w : Work) → Shows table.old l w → Shows table.new l (report_death id end.now w) }
+    ensures room { (l : Log) (n : ℕ) → Room table.old l (n + 1) → Room table.new l n }
+    ensures tgids { tgids table.new.table ≡ tgids table.old.table }
+{
+    let Some(thread) = table.find(id) else {
+        return;
+    };
+    if thread.life.is_dead() {
+        let thread = *thread;
+        raise(table, log, &thread, &end.status());
+    }
+}
+
+/// What waits for a target is flushed.
+pub fn flush_queue(table: &mut Table, log: &mut Log, target: Target)
+    requires { Room table.old log.old 0 }
+    ensures shows { (w : Work) → Shows table.old log.old w → Shows table.new log.new (end_waiting Flushed (λ q. same_target target q.target) w) }
+    ensures room { (n : ℕ) → Room table.old log.old n → Room table.new log.new n }
+    ensures tgids { tgids table.new.table ≡ tgids table.old.table }
+{
+    table.flush_queue(target, &mut log.ended);
+}
+
+/// A dead thread goes.
+pub fn remove_dead(table: &mut Table, id: u32)
+    ensures shows { (l : Log) (w : Work) → Shows table.old l w → Shows table.new l (remove_dead (λ t. t.id == id) w) }
+    ensures room { (l : Log) (n : ℕ) → Room table.old l n → Room table.new l n }
+    ensures tgids { tgids table.new.table ≡ tgids table.old.table }
+{
+    table.remove_dead(id);
+}
+
+/// A group without threads goes.
+pub fn drop_empty(table: &mut Table, tgid: u32)
+    ensures shows { (l : Log) (w : Work) → Shows table.old l w → Shows table.new l (drop_empty tgid w) }
+    ensures room { (l : Log) (n : ℕ) → Room table.old l n → Room table.new l n }
+    ensures fewer { length (tgids table.new.table) ≤ length (tgids table.old.table) }
+{
+    table.remove_group(tgid);
+}
+
+pub fn leave(table: &mut Table, log: &mut Log, tgid: u32, kill: bool, end: &End)
     requires { Room table.old log.old 0 }
     ensures shows { (w : Work) → Shows table.old log.old w → Shows table.new log.new (become Flushed (throughout tgid (broken kill end.now)) w) }
     ensures room { (n : ℕ) → Room table.old log.old n → Room table.new log.new n }
@@ -137,7 +216,7 @@ pub(crate) fn leave(table: &mut Table, log: &mut Log, tgid: u32, kill: bool, end
     table.leave(tgid, kill, end, &mut log.ended);
 }
 
-pub(crate) fn tell_dying(table: &Table, log: &mut Log, tgid: u32)
+pub fn tell_dying(table: &Table, log: &mut Log, tgid: u32)
     requires { Room table.now log.old 1 }
     ensures shows { (w : Work) → Shows table.now log.old w → Shows table.now log.new (tell_dying tgid w) }
     ensures room { (n : ℕ) → Room table.now log.old (n + 1) → Room table.now log.new n }
@@ -145,7 +224,7 @@ pub(crate) fn tell_dying(table: &Table, log: &mut Log, tgid: u32)
     log.dying.push_reserved(tgid);
 }
 
-pub(crate) fn tell_killed(table: &Table, log: &mut Log, tgid: u32)
+pub fn tell_killed(table: &Table, log: &mut Log, tgid: u32)
     requires { Room table.now log.old 1 }
     ensures shows { (w : Work) → Shows table.now log.old w → Shows table.now log.new (tell_killed tgid w) }
     ensures room { (n : ℕ) → Room table.now log.old (n + 1) → Room table.now log.new n }

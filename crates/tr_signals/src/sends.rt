@@ -35,7 +35,7 @@ fn end_now(table: &Table, tgid: u32, end: &End) -> End
 }
 
 /// A group begins to die; where it is dying already it keeps its end.
-pub(crate) fn begin_death(table: &mut Table, log: &mut Log, tgid: u32, end: &End, kill: bool)
+pub fn begin_death(table: &mut Table, log: &mut Log, tgid: u32, end: &End, kill: bool)
     requires { Room table.old log.old 1 }
     ensures shows { (w : Work) → Shows table.old log.old w → Shows table.new log.new (begin_death tgid end.now kill w) }
     ensures room { (n : ℕ) → Room table.old log.old (n + 1) → Room table.new log.new n }
@@ -48,7 +48,7 @@ pub(crate) fn begin_death(table: &mut Table, log: &mut Log, tgid: u32, end: &End
 }
 
 /// A KILL is delivered to a group.
-pub(crate) fn kill_group(table: &mut Table, log: &mut Log, tgid: u32, signal: Signal)
+pub fn kill_group(table: &mut Table, log: &mut Log, tgid: u32, signal: Signal)
     requires room { Room table.old log.old 2 }
     requires kill { signal ≡ 9 }
     ensures shows { (w : Work) → Shows table.old log.old w → Shows table.new log.new (kill_group tgid w) }
@@ -222,7 +222,7 @@ fn send_other(table: &mut Table, log: &mut Log, signal: Signal, info: &Info, tar
 }
 
 /// Sends a signal.
-pub(crate) fn send(table: &mut Table, log: &mut Log, signal: Signal, info: &Info, target: Target)
+pub fn send(table: &mut Table, log: &mut Log, signal: Signal, info: &Info, target: Target)
     requires { Room table.old log.old 3 }
     ensures shows { (w : Work) → Shows table.old log.old w → Shows table.new log.new (send signal info.now target w) }
     ensures room { (n : ℕ) → Room table.old log.old (((n + 1) + 1) + 1) → Room table.new log.new n }

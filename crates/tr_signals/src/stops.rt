@@ -51,7 +51,7 @@ fn note_where(table: &mut Table, log: &Log, holds: bool, tgid: u32, status: &Sta
 }
 
 /// A group-stop begins.
-pub(crate) fn initiate(table: &mut Table, tgid: u32, signal: Signal)
+pub fn initiate(table: &mut Table, tgid: u32, signal: Signal)
     ensures shows { (l : Log) (w : Work) → Shows table.old l w → Shows table.new l (initiate tgid signal w) }
     ensures room { (l : Log) (n : ℕ) → Room table.old l n → Room table.new l n }
     ensures tgids { tgids table.new.table ≡ tgids table.old.table }
@@ -73,7 +73,7 @@ fn end_stop_where(table: &mut Table, log: &Log, ends: bool, tells: bool, tgid: u
 }
 
 /// A SIGCONT continues the group.
-pub(crate) fn continue_all(table: &mut Table, log: &Log, tgid: u32)
+pub fn continue_all(table: &mut Table, log: &Log, tgid: u32)
     requires { Room table.old log.now 1 }
     ensures shows { (l : Log) (w : Work) → Shows table.old l w → Shows table.new l (continue_all tgid w) }
     ensures room { (l : Log) (n : ℕ) → Room table.old l (n + 1) → Room table.new l n }
@@ -120,7 +120,7 @@ fn settle_group(table: &mut Table, log: &Log, tgid: u32)
 }
 
 /// The last change of a step: a group-stop whose threads have all stopped is complete.
-pub(crate) fn settle(table: &mut Table, log: &Log)
+pub fn settle(table: &mut Table, log: &Log)
     requires { Room table.old log.now (length (tgids table.old.table)) }
     ensures shows { (l : Log) (w : Work) → Shows table.old l w → Shows table.new l (settle w) }
 {
