@@ -1,6 +1,7 @@
 //! Sends, takes and masks: for each event a check, which takes no memory, and the change that makes what is due.
 #![tactic(auto)]
 
+pub mod acts;
 mod kills;
 pub mod log;
 pub mod masks;

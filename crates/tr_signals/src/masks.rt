@@ -51,6 +51,8 @@ pub fn script(table: &Table, thread: &Thread) -> Option<Refusal>
     None
 }
 
+/// Whether a thread's operation on itself, which leaves no choice and isn't answered at once, is refused or due: ESRCH
+/// where there is no such thread, then NotRunning and Busy as `script` has them.
 pub fn check_script(table: &Table, tid: u32) -> Result<Checked, Refusal>
     ensures { result ≡ script_checked table.now.table tid }
 {

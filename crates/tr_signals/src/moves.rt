@@ -23,6 +23,7 @@ use tr_wait::Status;
 // The small moves of a step: each makes of table and log what the model's move makes of the step under way, and uses up
 // the places that it needs. None takes memory.
 
+/// Each live thread of a group that takes no part in the group-stop yet gets the stop mark.
 #[tactic(auto, using(crate::proofs::Rooms::helds_marked))]
 pub fn mark_all(table: &mut Table, tgid: u32)
     ensures shows { (l : Log) (w : Work) → Shows table.old l w → Shows table.new l (alter (throughout tgid marked) w) }
@@ -32,6 +33,7 @@ pub fn mark_all(table: &mut Table, tgid: u32)
     table.mark_all(tgid);
 }
 
+/// Each signal-delivery-stop of a group notes that a SIGCONT came.
 #[tactic(auto, using(crate::proofs::Rooms::helds_cont_noted))]
 pub fn note_cont(table: &mut Table, tgid: u32)
     ensures shows { (l : Log) (w : Work) → Shows table.old l w → Shows table.new l (alter (throughout tgid cont_noted) w) }
@@ -41,6 +43,7 @@ pub fn note_cont(table: &mut Table, tgid: u32)
     table.note_cont(tgid);
 }
 
+/// A SIGCONT comes to the threads of a group; `in_effect` says whether a group-stop is in effect.
 #[tactic(auto, using(crate::proofs::Rooms::helds_continued))]
 pub fn continue_threads(table: &mut Table, tgid: u32, in_effect: bool)
     ensures shows { (l : Log) (w : Work) → Shows table.old l w → Shows table.new l (alter (throughout tgid (continued_by in_effect)) w) }
@@ -50,6 +53,7 @@ pub fn continue_threads(table: &mut Table, tgid: u32, in_effect: bool)
     table.continue_threads(tgid, in_effect);
 }
 
+/// What happens to the record of one thread.
 #[tactic(auto, using(crate::proofs::Rooms::helds_own))]
 pub fn change_thread(table: &mut Table, id: u32, change: &Own)
     ensures shows { (l : Log) (w : Work) → Shows table.old l w → Shows table.new l (alter (only id (own change.now)) w) }
@@ -59,6 +63,7 @@ pub fn change_thread(table: &mut Table, id: u32, change: &Own)
     table.change_thread(id, change);
 }
 
+/// What happens to the record of one group.
 #[tactic(auto, using(crate::proofs::Rooms::regrouped_tgids))]
 pub fn change_group(table: &mut Table, tgid: u32, change: &GroupChange)
     ensures shows { (l : Log) (w : Work) → Shows table.old l w → Shows table.new l (regroup (only_group tgid (regrouped change.now)) w) }
@@ -68,6 +73,7 @@ pub fn change_group(table: &mut Table, tgid: u32, change: &GroupChange)
     table.change_group(tgid, change);
 }
 
+/// A note of a group for the starter, with the next report.
 #[tactic(auto, using(crate::proofs::Rooms::noted_tgids))]
 pub fn note(table: &mut Table, log: &Log, tgid: u32, status: &Status)
     requires { Room table.old log.now 1 }
@@ -78,6 +84,7 @@ pub fn note(table: &mut Table, log: &Log, tgid: u32, status: &Status)
     table.note(tgid, status);
 }
 
+/// The next signal is accepted and ends at once.
 pub fn accept_as(table: &mut Table, log: &mut Log, fate: Fate)
     requires { Room table.old log.old 1 }
     ensures shows { (w : Work) → Shows table.old log.old w → Shows table.new log.new (accept_as fate w) }
@@ -88,6 +95,7 @@ pub fn accept_as(table: &mut Table, log: &mut Log, fate: Fate)
     log.ended.push_reserved(Ending { number, fate });
 }
 
+/// The next signal is accepted and waits for a target.
 pub fn enqueue(table: &mut Table, log: &Log, signal: Signal, info: &Info, target: Target)
     requires { Room table.old log.now 1 }
     ensures shows { (l : Log) (w : Work) → Shows table.old l w → Shows table.new l (enqueue signal info.now target w) }
@@ -97,6 +105,7 @@ pub fn enqueue(table: &mut Table, log: &Log, signal: Signal, info: &Info, target
     table.enqueue(signal, info, target);
 }
 
+/// Pending signals of a group are flushed.
 pub fn flush(table: &mut Table, log: &mut Log, tgid: u32, flush: &Flush)
     requires { Room table.old log.old 0 }
     ensures shows { (w : Work) → Shows table.old log.old w → Shows table.new log.new (flush_in tgid (flushes flush.now) w) }
@@ -106,6 +115,7 @@ pub fn flush(table: &mut Table, log: &mut Log, tgid: u32, flush: &Flush)
     table.flush(tgid, flush, &mut log.ended);
 }
 
+/// The pending instance of a number is delivered.
 pub fn deliver(table: &mut Table, log: &mut Log, n: u64)
     requires { Room table.old log.old 0 }
     ensures shows { (w : Work) → Shows table.old log.old w → Shows table.new log.new (deliver n w) }
@@ -115,6 +125,7 @@ pub fn deliver(table: &mut Table, log: &mut Log, n: u64)
     table.deliver(n, &mut log.ended);
 }
 
+/// A free thread enters a signal-delivery-stop, which holds the pending instance.
 pub fn hold(table: &mut Table, log: &Log, thread: &Thread, instance: &Instance)
     requires { Room table.old log.now 1 }
     ensures shows { (l : Log) (w : Work) → Shows table.old l w → Shows table.new l (entered_now (stop.Signal instance.now false) thread.now (pulled instance.now w)) }
@@ -207,6 +218,7 @@ pub fn drop_empty(table: &mut Table, tgid: u32)
     table.remove_group(tgid);
 }
 
+/// Each thread of a group that isn't dead begins to leave, and what they held is flushed.
 pub fn leave(table: &mut Table, log: &mut Log, tgid: u32, kill: bool, end: &End)
     requires { Room table.old log.old 0 }
     ensures shows { (w : Work) → Shows table.old log.old w → Shows table.new log.new (become Flushed (throughout tgid (broken kill end.now)) w) }
@@ -216,6 +228,7 @@ pub fn leave(table: &mut Table, log: &mut Log, tgid: u32, kill: bool, end: &End)
     table.leave(tgid, kill, end, &mut log.ended);
 }
 
+/// The death of a group began.
 pub fn tell_dying(table: &Table, log: &mut Log, tgid: u32)
     requires { Room table.now log.old 1 }
     ensures shows { (w : Work) → Shows table.now log.old w → Shows table.now log.new (tell_dying tgid w) }
@@ -224,6 +237,7 @@ pub fn tell_dying(table: &Table, log: &mut Log, tgid: u32)
     log.dying.push_reserved(tgid);
 }
 
+/// A KILL was delivered to a group.
 pub fn tell_killed(table: &Table, log: &mut Log, tgid: u32)
     requires { Room table.now log.old 1 }
     ensures shows { (w : Work) → Shows table.now log.old w → Shows table.now log.new (tell_killed tgid w) }

@@ -7,27 +7,25 @@ ghost use Rattle.tr_model.specs.Journals.{taken};
 ghost use Rattle.tr_model.specs.Moves.{Work};
 ghost use Rattle.tr_model.specs.Preferred.{checked};
 ghost use Rattle.tr_model.specs.Steps.{after, takes_instance};
-ghost use Rattle.tr_model.specs.Takes.{act, act_on, deliver, did_of, take, taken_from, took};
+ghost use Rattle.tr_model.specs.Takes.{act, deliver, take, taken_from, took};
 ghost use Rattle.tr_table.specs.Changes.{tgids};
 ghost use Rattle.tr_signals.specs.Shows.{Room, Shows};
 ghost use Rattle.tr_signals.specs.Makes.{Makes};
-ghost use Rattle.tr_signals.specs.Takes.{Takes, die_of, queue_of};
+ghost use Rattle.tr_signals.specs.Takes.{Takes, queue_of};
 ghost use Rattle.tr_pending.specs.Waiting.{best_of};
 ghost use Rattle.tr_model.specs.Tables.{queue};
 ghost use Rattle.tr_model.specs.declared.rows.Target.TheVariants as target;
 
+use crate::acts::{act, did_of};
 use crate::log::{Made, NO_CHOICE, reserve};
 use crate::masks::best_for;
-use crate::moves::{change_thread, deliver, hold};
-use crate::sends::{begin_death, kill_group};
-use crate::stops::{initiate, settle};
+use crate::moves::{deliver, hold};
+use crate::stops::settle;
 use std::alloc::{AllocError, Global};
-use tr_group::Action;
 use tr_model::{Checked, Choice, Did, Refusal, Reply, Target};
 use tr_pending::Instance;
-use tr_sigset::{Base, Signal};
-use tr_table::{Log, Own, Table};
-use tr_tracee::{End, Thread};
+use tr_table::{Log, Table};
+use tr_tracee::Thread;
 
 // Which pending signal a thread takes, and what it does with it: signal(7), and "Signal-delivery-stop" of ptrace(2).
 
@@ -61,20 +59,6 @@ pub fn check_take(table: &Table, tid: u32) -> Result<Checked, Refusal>
     }
 }
 
-fn did_of(action: Action, signal: Signal) -> Did
-    ensures { result ≡ did_of action signal }
-{
-    match action {
-        Action::Ignore => Did::Ignored,
-        Action::Catch => Did::Caught,
-        Action::Default => match signal.default_action() {
-            Base::Term | Base::Core => Did::Dying,
-            Base::Stop => Did::Stopping,
-            Base::Ignored | Base::Continue => Did::Ignored,
-        },
-    }
-}
-
 /// What a thread does with an instance that it takes: a tracee reports it, and others act by the action.
 fn did(table: &Table, thread: &Thread, instance: &Instance) -> Did
     ensures { result ≡ took table.now.table thread.now instance.now }
@@ -86,33 +70,6 @@ fn did(table: &Table, thread: &Thread, instance: &Instance) -> Did
     }
 }
 
-fn die_of(table: &mut Table, log: &mut Log, tgid: u32, signal: Signal)
-    requires { Room table.old log.old 2 }
-    ensures shows { (w : Work) → Shows table.old log.old w → Shows table.new log.new (die_of tgid signal w) }
-    ensures room { (n : ℕ) → Room table.old log.old ((n + 1) + 1) → Room table.new log.new n }
-    ensures tgids { tgids table.new.table ≡ tgids table.old.table }
-{
-    if signal.number() == 9 {
-        kill_group(table, log, tgid, signal);
-    } else {
-        begin_death(table, log, tgid, &End::Killed(signal), false);
-    }
-}
-
-fn act(table: &mut Table, log: &mut Log, thread: &Thread, signal: Signal, did: Did)
-    requires { Room table.old log.old 2 }
-    ensures shows { (w : Work) → Shows table.old log.old w → Shows table.new log.new (act thread.now signal false did w) }
-    ensures room { (n : ℕ) → Room table.old log.old ((n + 1) + 1) → Room table.new log.new n }
-    ensures tgids { tgids table.new.table ≡ tgids table.old.table }
-{
-    match did {
-        Did::Caught => change_thread(table, thread.id, &Own::Pausing(false)),
-        Did::Stopping => initiate(table, thread.group, signal),
-        Did::Dying => die_of(table, log, thread.group, signal),
-        Did::Ignored | Did::Reported => {}
-    }
-}
-
 fn deliver_to(table: &mut Table, log: &mut Log, thread: &Thread, instance: &Instance, did: Did)
     requires { Room table.old log.old 2 }
     ensures shows { (w : Work) → Shows table.old log.old w → Shows table.new log.new (act thread.now instance.now.sig false did (deliver instance.now.n w)) }
@@ -120,7 +77,7 @@ fn deliver_to(table: &mut Table, log: &mut Log, thread: &Thread, instance: &Inst
     ensures tgids { tgids table.new.table ≡ tgids table.old.table }
 {
     deliver(table, log, instance.n);
-    act(table, log, thread, instance.sig, did);
+    act(table, log, thread, instance.sig, false, did);
 }
 
 fn take_instance(table: &mut Table, log: &mut Log, thread: &Thread, instance: &Instance, did: Did)
