@@ -171,6 +171,17 @@ room_less t l n o =
       raised = let x = o.raised in omega arith;
     }
 
+pub room_fits : (t : View) (l : Log) (m n : ℕ) → m ≤ n → Room t l n → Room t l m
+room_fits t l m n h o =
+    record {
+      ended = let x = o.ended in omega (arith, h);
+      dying = let x = o.dying in omega (arith, h);
+      killed = let x = o.killed in omega (arith, h);
+      waiting = let x = o.waiting in omega (arith, h);
+      accepted = let x = o.accepted in omega (arith, h);
+      raised = let x = o.raised in omega (arith, h);
+    }
+
 pub filter_halves : {A : Type 0} (p : A → Bool) (xs : List A) → length (filter p xs) + length (filter (λ x. not (p x)) xs) ≡ length xs
 filter_halves p [] = refl
 filter_halves p (x ∷ xs) = go (p x) (filter_halves p xs)

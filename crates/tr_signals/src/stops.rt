@@ -1,14 +1,17 @@
-ghost use Rattle.std.specs.Prelude.{◌≡◌, ◌+◌, ◌<◌, ℕ, not, ◌&&◌, is_some, length};
+ghost use Rattle.std.specs.Prelude.{◌≡◌, ◌+◌, ◌<◌, ℕ, not, ◌&&◌, None, is_some, length};
 ghost use Rattle.tr_wait.specs.declared.status.Status.TheVariants as status;
 ghost use Rattle.tr_group.specs.GroupStops.{is_complete, is_stopping};
 ghost use Rattle.tr_model.specs.GroupStops.{continue_all, ended_stop, fill_stop, initiate, note_stop, settle, settle_group};
 ghost use Rattle.tr_model.specs.Moves.{Work, note, only_group, regroup, when};
 ghost use Rattle.tr_model.specs.Tables.{group_of, has_stop_mark, has_traced, stop_in_effect, stop_of};
 ghost use Rattle.tr_table.specs.Changes.{tgids};
+ghost use Rattle.tr_signals.specs.Makes.{Makes};
 ghost use Rattle.tr_signals.specs.Shows.{Room, Shows};
 ghost use Rattle.tr_table.specs.declared.logs.Log.{Log};
 
+use crate::log::Made;
 use crate::moves::{change_group, continue_threads, mark_all, note};
+use tr_model::Reply;
 use tr_sigset::Signal;
 use tr_table::{GroupChange, Log, Table};
 use tr_wait::Status;
@@ -128,5 +131,21 @@ pub fn settle(table: &mut Table, log: &Log)
     for i in 0..count {
         let tgid = table.tgid_at(i);
         settle_group(table, log, tgid);
+    }
+}
+
+/// The end of a step: `settle`, and what the step made, with this reply.
+pub fn finish(table: &mut Table, log: Log, reply: &Reply) -> Made
+    requires { Room table.old log (length (tgids table.old.table)) }
+    ensures makes { (w : Work) → Shows table.old log w → Makes result table.new.table (record { reply = reply.now; work = settle w }) }
+    ensures taken_from { result.taken_from ≡ None }
+{
+    settle(table, &log);
+    Made {
+        reply: *reply,
+        ended: log.ended,
+        dying: log.dying,
+        killed: log.killed,
+        taken_from: None,
     }
 }

@@ -1,0 +1,7 @@
+//! Ends, waits and the requests of a tracer: for each event a check, which takes no memory, and the change that makes
+//! what is due.
+#![tactic(auto)]
+
+mod exits;
+
+pub use exits::{check_exit, check_exit_group, exit, exit_group};
