@@ -4,3 +4,4 @@ pub mod Targets
 pub mod Scripts
 pub mod Kills
 pub mod Takes
+pub mod Halts

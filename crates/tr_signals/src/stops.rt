@@ -18,7 +18,8 @@ use tr_wait::Status;
 
 // Group-stops: "Group-stop" of ptrace(2).
 
-fn stop_now(table: &Table, tgid: u32) -> Option<Signal>
+/// The signal of the group-stop in effect.
+pub fn stop_now(table: &Table, tgid: u32) -> Option<Signal>
     ensures { (l : Log) (w : Work) → Shows table.now l w → result ≡ stop_in_effect w.table tgid }
 {
     table.stop_of(tgid).signal()
