@@ -47,7 +47,8 @@ fn is_over_limit(table: &Table, sig: u8) -> bool
     sig >= 32 && table.queued() >= table.limit() as usize
 }
 
-fn fate_in(ended: &[Ending], n: u64) -> Fate
+/// What became of an accepted signal in a step, by what ended in it: pending where it did not end.
+pub fn fate_in(ended: &[Ending], n: u64) -> Fate
     ensures { result ≡ fate_in ended.now n }
 {
     for ending in ended {

@@ -1,6 +1,7 @@
 //! Sends, takes and masks: for each event a check, which takes no memory, and the change that makes what is due.
 #![tactic(auto)]
 
+mod actions;
 pub mod acts;
 pub mod halts;
 mod kills;
@@ -11,8 +12,9 @@ pub mod sends;
 pub mod stops;
 mod takes;
 
+pub use actions::{check_set_action, set_action};
 pub use halts::{check_halt, halt};
-pub use kills::{check_kill, check_sigqueue, check_tgkill, kill, sigqueue, tgkill};
+pub use kills::{check_kill, check_sigqueue, check_tgkill, fate_in, kill, sigqueue, tgkill};
 pub use log::{Made, recycle};
 pub use masks::{check_mask, check_pause, mask, pause};
 pub use takes::{check_take, take};
