@@ -3,5 +3,10 @@
 #![tactic(auto)]
 
 mod exits;
+mod tracing;
 
 pub use exits::{check_exit, check_exit_group, exit, exit_group};
+pub use tracing::{
+    attach, check_attach, check_interrupt, check_seize, check_set_options, interrupt, seize,
+    set_options,
+};

@@ -139,6 +139,7 @@ pub fn settle(table: &mut Table, log: &Log)
 pub fn finish(table: &mut Table, log: Log, reply: &Reply) -> Made
     requires { Room table.old log (length (tgids table.old.table)) }
     ensures makes { (w : Work) → Shows table.old log w → Makes result table.new.table (record { reply = reply.now; work = settle w }) }
+    ensures ended { result.ended ≡ log.ended }
     ensures taken_from { result.taken_from ≡ None }
 {
     settle(table, &log);
