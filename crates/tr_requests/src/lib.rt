@@ -3,10 +3,16 @@
 #![tactic(auto)]
 
 mod exits;
+mod questions;
+mod restarts;
 mod tracing;
+mod traps;
 
 pub use exits::{check_exit, check_exit_group, exit, exit_group};
 pub use tracing::{
     attach, check_attach, check_interrupt, check_seize, check_set_options, interrupt, seize,
     set_options,
 };
+pub use questions::{check_event_message, check_signal_info};
+pub use restarts::{check_cont, check_detach, check_listen, cont, detach, listen};
+pub use traps::{check_trap, trap};

@@ -86,7 +86,7 @@ is_due T a id n e = go (thread_of T id) refl e
     go (Some t) f q = with_thread t f (is_free t.life) (has_mark t) refl q
 
 -- the thread that is found by an id has it
-id_found : (id : ℕ) (ts : List Thread) (t : Thread) → thread_in ts id ≡ Some t → t.id ≡ id
+pub id_found : (id : ℕ) (ts : List Thread) (t : Thread) → thread_in ts id ≡ Some t → t.id ≡ id
 id_found id [] t e = absurd (none e)
   where
     none : None ≡ Some t → ⊥

@@ -165,7 +165,8 @@ fn merges(table: &Table, signal: Signal, target: Target) -> bool
     !signal.is_real_time() && table.is_waiting(target, signal)
 }
 
-fn put(table: &mut Table, log: &mut Log, signal: Signal, info: &Info, target: Target)
+/// An accepted signal merges with one that waits for the target already, or waits for it.
+pub fn put(table: &mut Table, log: &mut Log, signal: Signal, info: &Info, target: Target)
     requires { Room table.old log.old 1 }
     ensures shows { (w : Work) → Shows table.old log.old w → Shows table.new log.new (put signal info.now target w) }
     ensures room { (n : ℕ) → Room table.old log.old (n + 1) → Room table.new log.new n }

@@ -1,5 +1,5 @@
 ghost use Rattle.std.specs.Prelude.{◌≡◌};
-ghost use Rattle.tr_tracee.specs.Lives.{held, is_dead, is_event_stop, is_execing, is_free, is_in_event_stop, is_in_stop, is_leaving, is_live, is_stopped, message, serves_marks, status_of_end, status_of_stop, was_told};
+ghost use Rattle.tr_tracee.specs.Lives.{cont_came, held, is_dead, is_event_stop, is_execing, is_free, is_in_event_stop, is_in_stop, is_leaving, is_live, is_stopped, message, serves_marks, status_of_end, status_of_stop, was_told};
 ghost use Rattle.tr_tracee.specs.Stops.{may_enter};
 
 use tr_pending::Instance;
@@ -128,6 +128,16 @@ impl Life {
         ensures { result ≡ is_leaving self.now }
     {
         matches!(self, Life::Leaving { .. })
+    }
+
+    /// Whether a SIGCONT came during its signal-delivery-stop.
+    pub fn cont_came(&self) -> bool
+        ensures { result ≡ cont_came self.now }
+    {
+        match self {
+            Life::InStop(Stop::Signal { cont_came, .. }) => *cont_came,
+            _ => false,
+        }
     }
 
     /// Whether it waits in execve(2) for the deaths of the other threads of its group.
