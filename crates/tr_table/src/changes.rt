@@ -5,7 +5,7 @@ ghost use Rattle.tr_model.specs.Moves.{changed, ending_of, ends, group_changed, 
 ghost use Rattle.tr_model.specs.Tables.{Table};
 ghost use Rattle.tr_model.specs.Tables.{action_of, all_dead, has_live, has_stop_mark, has_traced, members, owner, queue, stop_of, end_of, group_of, thread_of};
 ghost use Rattle.tr_pending.specs.Waiting.{best_of, is_waiting};
-ghost use Rattle.tr_tracee.specs.Ends.{broken};
+ghost use Rattle.tr_tracee.specs.Ends.{broken, broken_by_exec};
 ghost use Rattle.tr_tracee.specs.Marks.{cont_noted, marked};
 ghost use Rattle.tr_tracee.specs.Stops.{entered_as, reported};
 ghost use Rattle.tr_tracee.specs.Threads.{only, throughout};
@@ -72,6 +72,18 @@ impl Table {
     {
         log_leaving(ended, self.threads.as_slice(), tgid, kill, end);
         leave_all(&mut self.threads, tgid, kill, end);
+    }
+
+    /// Each other thread of a group that isn't dead begins to leave, since the thread with the id has called execve(2).
+    /// What they held is flushed, and appended to `ended`.
+    pub fn leave_for_exec(&mut self, tgid: u32, id: u32, end: &End, ended: &mut Vec<Ending>)
+        requires { vec_len ended.old + helds self.old.table.threads ≤ vec_capacity ended.old }
+        ensures table { self.new ≡ record self.old { table = record self.old.table { threads = map (throughout tgid (broken_by_exec id end.now)) self.old.table.threads } } }
+        ensures ended { ended.new.items ≡ ended.old.items ++ flat_map (ends Flushed (throughout tgid (broken_by_exec id end.now))) self.old.table.threads }
+        ensures len { vec_len ended.new ≡ vec_len ended.old + length (flat_map (ends Flushed (throughout tgid (broken_by_exec id end.now))) self.old.table.threads) }
+        ensures capacity { vec_capacity ended.new ≡ vec_capacity ended.old }
+    {
+        self.threads.leave_for_exec(tgid, id, end, ended);
     }
 
     /// What happens to the record of a thread.

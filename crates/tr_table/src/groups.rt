@@ -7,7 +7,7 @@ ghost use Rattle.tr_model.specs.Moves.{group_changed, only_group, with_note};
 ghost use Rattle.tr_model.specs.Tables.{actions_of, end_of, group_in, stop_of};
 ghost use Rattle.tr_table.specs.Changes.{regrouped};
 
-use crate::threads::has_member;
+use crate::membership::has_member;
 use tr_group::{Action, GroupStop};
 use tr_model::Group;
 use tr_sigset::Signal;

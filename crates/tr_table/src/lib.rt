@@ -8,6 +8,7 @@ mod items;
 mod logs;
 mod masks;
 mod members;
+mod membership;
 mod opened;
 mod queues;
 mod reads;

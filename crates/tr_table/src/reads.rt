@@ -5,18 +5,21 @@ ghost use Rattle.tr_tracee.specs.Lives.{is_live};
 ghost use Rattle.tr_pending.specs.Waiting.{best_of, is_waiting};
 ghost use Rattle.tr_model.specs.Journals.{IsSorted};
 ghost use Rattle.tr_model.specs.Moves.{instance_in};
-ghost use Rattle.tr_model.specs.Tables.{action_of, all_dead, end_of, group_of, has_live, has_stop_mark, has_traced, members, owner, queue, stop_of};
+ghost use Rattle.tr_model.specs.Tables.{action_of, all_dead, end_of, group_of, has_live, has_stop_mark, has_traced, members, others_dead, owner, queue, stop_of};
 ghost use Rattle.tr_table.specs.Changes.{tgids};
 
 use crate::groups::{action_in, end_in, stop_in};
+use crate::membership::{
+    all_dead, count_members, has_live, has_stop_mark, has_traced, others_dead, some_blocks,
+};
 use crate::table::Table;
-use crate::threads::{all_dead, has_live, has_stop_mark, has_traced, owner_of, some_blocks};
+use crate::threads::owner_of;
 use crate::waiting::{best, find_instance, is_waiting};
 use tr_group::{Action, GroupStop};
 use tr_model::Target;
 use tr_pending::Instance;
 use tr_sigset::{SigSet, Signal};
-use tr_tracee::End;
+use tr_tracee::{End, Thread};
 
 // What is read off a table. No call here takes memory.
 
@@ -40,6 +43,20 @@ impl Table {
         ensures { result ≡ all_dead self.now.table tgid }
     {
         all_dead(self.threads.as_slice(), tgid)
+    }
+
+    /// Whether each other thread of the thread's group is dead.
+    pub fn others_dead(&self, thread: &Thread) -> bool
+        ensures { result ≡ others_dead self.now.table thread.now }
+    {
+        others_dead(self.threads.as_slice(), thread.group, thread.id)
+    }
+
+    /// How many threads the group has, dead ones too.
+    pub fn member_count(&self, tgid: u32) -> usize
+        ensures { result ≡ length (members self.now.table tgid) }
+    {
+        count_members(self.threads.as_slice(), tgid)
     }
 
     /// Whether some thread of the group is live.

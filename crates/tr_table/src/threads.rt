@@ -1,9 +1,9 @@
-ghost use Rattle.std.specs.Prelude.{◌≡◌, ◌+◌, ◌<◌, ◌≤◌, ◌++◌, ◌∷◌, ◌==◌, ◌&&◌, [], OnErr, OnOk, length, filter, flat_map, is_some, map, not, option_copied, slice_get, slice_set, vec_len, vec_capacity};
+ghost use Rattle.std.specs.Prelude.{◌≡◌, ◌+◌, ◌<◌, ◌≤◌, ◌++◌, ◌∷◌, ◌==◌, ◌&&◌, ◌||◌, [], OnErr, OnOk, length, filter, flat_map, is_some, map, not, option_copied, slice_get, slice_set, vec_len, vec_capacity};
 ghost use Rattle.std.specs.List.{list_all, list_any};
 ghost use Rattle.tr_sigset.specs.Sets.{has};
 ghost use Rattle.tr_tracee.specs.Lives.{is_dead, is_live};
 ghost use Rattle.tr_tracee.specs.Threads.{in_group, is_traced, only, throughout};
-ghost use Rattle.tr_tracee.specs.Ends.{broken};
+ghost use Rattle.tr_tracee.specs.Ends.{broken, broken_by_exec};
 ghost use Rattle.tr_model.specs.declared.fates.Fate.TheVariants.{Flushed};
 ghost use Rattle.tr_table.specs.Held.{helds, one};
 ghost use Rattle.tr_tracee.specs.Stops.{entered_as, reported};
@@ -152,6 +152,18 @@ impl Threads {
         ensures { self.new ≡ changed id (entered_as number stop.now) self.old }
     {
         enter_first(&mut self.list, id, number, stop);
+    }
+
+    /// The threads of a group but that with the id begin to leave, since that has called execve(2).
+    pub(crate) fn leave_for_exec(&mut self, tgid: u32, id: u32, end: &End, ended: &mut Vec<Ending>)
+        requires { vec_len ended.old + helds self.old ≤ vec_capacity ended.old }
+        ensures threads { self.new ≡ map (throughout tgid (broken_by_exec id end.now)) self.old }
+        ensures ended { ended.new.items ≡ ended.old.items ++ flat_map (ends Flushed (throughout tgid (broken_by_exec id end.now))) self.old }
+        ensures len { vec_len ended.new ≡ vec_len ended.old + length (flat_map (ends Flushed (throughout tgid (broken_by_exec id end.now))) self.old) }
+        ensures capacity { vec_capacity ended.new ≡ vec_capacity ended.old }
+    {
+        log_leaving_for_exec(ended, &self.list, tgid, id, end);
+        leave_each_for_exec(&mut self.list, tgid, id, end);
     }
 
     /// The thread with the id has the report of this number.
@@ -354,6 +366,42 @@ pub(crate) fn log_leaving(
     }
 }
 
+/// What a thread of a group becomes where another of them, with this id, calls execve(2).
+fn left_for_exec_in(tgid: u32, id: u32, end: &End, thread: &Thread) -> Thread
+    ensures { result ≡ throughout tgid (broken_by_exec id end.now) thread.now }
+{
+    let mut changed = *thread;
+    if thread.group == tgid {
+        changed.leave_for_exec(id, end);
+    }
+    changed
+}
+
+/// Appends what the other threads of a group hold, and give up as one of them calls execve(2).
+#[tactic(auto, using(crate::proofs::Helds::helds_drop, crate::proofs::Helds::few_endings))]
+fn log_leaving_for_exec(ended: &mut Vec<Ending>, threads: &[Thread], tgid: u32, id: u32, end: &End)
+    requires { vec_len ended.old + helds threads.now ≤ vec_capacity ended.old }
+    ensures items { ended.new.items ≡ ended.old.items ++ flat_map (ends Flushed (throughout tgid (broken_by_exec id end.now))) threads.now }
+    ensures len { vec_len ended.new ≡ vec_len ended.old + length (flat_map (ends Flushed (throughout tgid (broken_by_exec id end.now))) threads.now) }
+    ensures capacity { vec_capacity ended.new ≡ vec_capacity ended.old }
+{
+    for thread in threads {
+        push_end(
+            ended,
+            &thread.life.held(),
+            &left_for_exec_in(tgid, id, end, thread).life.held(),
+        );
+    }
+}
+
+fn leave_each_for_exec(threads: &mut [Thread], tgid: u32, id: u32, end: &End)
+    ensures { threads.new ≡ map (throughout tgid (broken_by_exec id end.now)) threads.old }
+{
+    for thread in threads.iter_mut() {
+        *thread = left_for_exec_in(tgid, id, end, thread);
+    }
+}
+
 pub(crate) fn find_thread(threads: &[Thread], id: u32) -> Option<&Thread>
     ensures { option_copied result ≡ thread_in threads.now id }
 {
@@ -370,65 +418,6 @@ pub(crate) fn owner_of(threads: &[Thread], target: Target) -> u32
             None => 0,
         },
     }
-}
-
-// Tests of the threads of one group
-
-pub(crate) fn has_member(threads: &[Thread], tgid: u32) -> bool
-    ensures { result ≡ list_any (in_group tgid) threads.now }
-{
-    threads.iter().any(|t| t.group == tgid)
-}
-
-pub(crate) fn has_traced(threads: &[Thread], tgid: u32) -> bool
-    ensures { result ≡ list_any is_traced (filter (in_group tgid) threads.now) }
-{
-    threads
-        .iter()
-        .filter(|t| t.group == tgid)
-        .any(|t| t.is_traced())
-}
-
-pub(crate) fn all_dead(threads: &[Thread], tgid: u32) -> bool
-    ensures { result ≡ list_all (λ t. is_dead t.life) (filter (in_group tgid) threads.now) }
-{
-    threads
-        .iter()
-        .filter(|t| t.group == tgid)
-        .all(|t| t.life.is_dead())
-}
-
-pub(crate) fn has_live(threads: &[Thread], tgid: u32) -> bool
-    ensures { result ≡ list_any (λ t. is_live t.life) (filter (in_group tgid) threads.now) }
-{
-    threads
-        .iter()
-        .filter(|t| t.group == tgid)
-        .any(|t| t.life.is_live())
-}
-
-pub(crate) fn has_stop_mark(threads: &[Thread], tgid: u32) -> bool
-    ensures { result ≡ list_any (λ t. t.stop_mark) (filter (in_group tgid) threads.now) }
-{
-    threads
-        .iter()
-        .filter(|t| t.group == tgid)
-        .any(|t| t.stop_mark)
-}
-
-fn blocks(thread: &Thread, signal: Signal) -> bool
-    ensures { result ≡ (is_live thread.now.life && has thread.now.mask signal) }
-{
-    thread.life.is_live() && thread.mask.has(signal)
-}
-
-pub(crate) fn some_blocks(threads: &[Thread], tgid: u32, signal: Signal) -> bool
-    ensures { result ≡ list_any (λ t. is_live t.life && has t.mask signal) (filter (in_group tgid) threads.now) }
-{
-    threads
-        .iter()
-        .filter(|t| t.group == tgid)
-        .any(|t| blocks(t, signal))
 }
 
 // Places in a group
