@@ -1,5 +1,5 @@
 -- How many threads hold an instance after a move, and the ids of the groups after one.
-use Rattle.std.proofs.Common.{◌≡◌, ℕ, suc, ◌+◌, ◌<◌, ◌≤◌, List, [], ◌∷◌, ◌++◌, length, take, get_or, Option, Some, None, Bool, true, false, is_some, if◌then◌else◌, ◌==◌, map, flat_map, filter, not, refl, ap, sym, ◌∙◌, arith, length-append, unwrap_or}
+use Rattle.std.proofs.Common.{◌≡◌, ℕ, suc, ◌+◌, ◌<◌, ◌≤◌, List, [], ◌∷◌, ◌++◌, length, take, get_or, Option, Some, None, Bool, true, false, is_some, if◌then◌else◌, ◌==◌, map, flat_map, filter, not, ◌&&◌, refl, ap, sym, ◌∙◌, arith, length-append, unwrap_or}
 use Rattle.std.proofs.lemmas.List.{take_more}
 use Rattle.std.specs.Option.{SomeIff}
 use Rattle.tr_sigset.specs.Signals.{IsSignal}
@@ -10,8 +10,8 @@ use Rattle.tr_tracee.specs.declared.life.Life.{Life}
 use Rattle.tr_tracee.specs.declared.life.Life.TheVariants as life
 use Rattle.tr_tracee.specs.declared.life.Stop.TheVariants as stop
 use Rattle.tr_tracee.specs.declared.thread.Thread.{Thread}
-use Rattle.tr_tracee.specs.Ends.{broken, dead_life, execed_life, execing_life, leaving_life}
-use Rattle.tr_tracee.specs.Lives.{held, is_dead, is_in_stop}
+use Rattle.tr_tracee.specs.Ends.{broken, broken_by_exec, own_end, dead_life, execed_life, execing_life, leaving_life}
+use Rattle.tr_tracee.specs.Lives.{held, is_dead, is_execing, is_in_stop}
 use Rattle.tr_tracee.specs.Marks.{cont_noted, cont_noted_life, continued_life, marked, stopped_life}
 use Rattle.tr_tracee.specs.Stops.{untraced_life, without_trace}
 use Rattle.tr_tracee.specs.Threads.{only, throughout}
@@ -19,7 +19,7 @@ use Rattle.tr_group.specs.Members.{continued_by}
 use Rattle.tr_model.specs.declared.fates.Fate.{Fate}
 use Rattle.tr_model.specs.declared.rows.Group.{Group}
 use Rattle.tr_model.specs.declared.rows.Waiting.{Waiting}
-use Rattle.tr_model.specs.Moves.{Work, changed, each, ends, endings, group_changed, only_group, with_note, without_instance}
+use Rattle.tr_model.specs.Moves.{Work, changed, dropped, in_place, renamed, each, ends, endings, group_changed, only_group, with_note, without_instance}
 use Rattle.tr_table.specs.declared.groups.GroupChange.{GroupChange}
 use Rattle.tr_table.specs.declared.groups.GroupChange.TheVariants as group
 use Rattle.tr_table.specs.declared.threads.Own.{Own}
@@ -152,6 +152,20 @@ broken_gives g kill e = record { none = λ t h. go t h (t.group == g) }
     go t h true = held_broken kill e t
     go t h false = h
 
+held_broken_by_exec : (id : ℕ) (e : End) (t : Thread) → held t.life ≡ None → held (broken_by_exec id e t).life ≡ None
+held_broken_by_exec id e t h = go (t.id == id)
+  where
+    go : (b : Bool) → held (if b then t else broken false (own_end e t.life) t).life ≡ None
+    go true = h
+    go false = held_broken false (own_end e t.life) t
+
+pub broken_by_exec_gives : (g id : ℕ) (e : End) → Gives (throughout g (broken_by_exec id e))
+broken_by_exec_gives g id e = record { none = λ t h. go t h (t.group == g) }
+  where
+    go : (t : Thread) → held t.life ≡ None → (b : Bool) → held (if b then broken_by_exec id e t else t).life ≡ None
+    go t h true = held_broken_by_exec id e t h
+    go t h false = h
+
 pub helds_few : (ts : List Thread) → helds ts ≤ length ts
 helds_few [] = omega arith
 helds_few (t ∷ ts) = go (is_some (held t.life)) (helds_few ts)
@@ -262,3 +276,32 @@ helds_kept p (t ∷ ts) = go (p t) (helds_kept p ts)
 
 pub fewer_kept : {A : Type 0} (p : A → Bool) (xs : List A) → length (filter p xs) ≤ length xs
 fewer_kept p xs = let h = filter_halves p xs in omega arith
+
+-- an execing thread in its dead leader's place holds nothing
+holds_none_execing : (l : Life) → is_execing l ≡ true → held l ≡ None
+holds_none_execing life.Execing e = refl
+holds_none_execing life.Free e = cc
+holds_none_execing life.Stopped e = cc
+holds_none_execing (life.InStop s) e = cc
+holds_none_execing life.Listening e = cc
+holds_none_execing (life.Leaving x told) e = cc
+holds_none_execing (life.Dead x) e = cc
+
+held_in_place : (t : Thread) → is_execing t.life ≡ true → (x : Thread) → one (is_some (held (in_place t x).life)) ≤ one (is_some (held x.life))
+held_in_place t e x = go (x.id == t.group && is_dead x.life)
+  where
+    go : (b : Bool) → one (is_some (held (if b then renamed t.group t else x).life)) ≤ one (is_some (held x.life))
+    go true = rw (holds_none_execing t.life e) (omega arith)
+    go false = omega arith
+
+pub helds_in_place : (t : Thread) → is_execing t.life ≡ true → (ts : List Thread) → helds (map (in_place t) ts) ≤ helds ts
+helds_in_place t e [] = omega arith
+helds_in_place t e (x ∷ xs) = omega (arith, held_in_place t e x, helds_in_place t e xs)
+
+pub helds_dropped : (id : ℕ) (ts : List Thread) → helds (dropped id ts) ≤ helds ts
+helds_dropped id [] = omega arith
+helds_dropped id (t ∷ ts) = go (t.id == id) (helds_dropped id ts)
+  where
+    go : (b : Bool) → helds (dropped id ts) ≤ helds ts → helds (if b then ts else t ∷ dropped id ts) ≤ one (is_some (held t.life)) + helds ts
+    go true h = omega arith
+    go false h = omega (arith, h)

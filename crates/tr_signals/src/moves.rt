@@ -1,11 +1,11 @@
 ghost use Rattle.std.specs.Prelude.{◌≡◌, ◌+◌, ◌≤◌, ◌<◌, ◌==◌, ℕ, false, length};
 ghost use Rattle.tr_model.specs.declared.fates.Fate.TheVariants.{Flushed};
-ghost use Rattle.tr_model.specs.Moves.{Work, accept_as, alter, become, drop_empty, end_waiting, enqueue, enter, entered_now, note, only_group, pulled, raise, regroup, remove_dead, report_death, tell_dying, tell_killed};
+ghost use Rattle.tr_model.specs.Moves.{Work, accept_as, alter, become, drop_empty, end_waiting, enqueue, enter, entered_now, note, only_group, pulled, raise, regroup, remove_dead, report_death, take_place, tell_dying, tell_killed};
 ghost use Rattle.tr_model.specs.Tables.{same_target};
 ghost use Rattle.tr_model.specs.Sends.{flush_in};
 ghost use Rattle.tr_model.specs.Takes.{deliver};
 ghost use Rattle.tr_tracee.specs.declared.life.Stop.TheVariants as stop;
-ghost use Rattle.tr_tracee.specs.Ends.{broken};
+ghost use Rattle.tr_tracee.specs.Ends.{broken, broken_by_exec};
 ghost use Rattle.tr_tracee.specs.Marks.{cont_noted, marked};
 ghost use Rattle.tr_tracee.specs.Threads.{only, throughout};
 ghost use Rattle.tr_group.specs.Members.{continued_by};
@@ -226,6 +226,31 @@ pub fn leave(table: &mut Table, log: &mut Log, tgid: u32, kill: bool, end: &End)
     ensures tgids { tgids table.new.table ≡ tgids table.old.table }
 {
     table.leave(tgid, kill, end, &mut log.ended);
+}
+
+/// Each other thread of a group that isn't dead begins to leave, since the thread with the id has called execve(2), and
+/// what they held is flushed.
+pub fn leave_for_exec(table: &mut Table, log: &mut Log, tgid: u32, id: u32, end: &End)
+    requires { Room table.old log.old 0 }
+    ensures shows { (w : Work) → Shows table.old log.old w → Shows table.new log.new (become Flushed (throughout tgid (broken_by_exec id end.now)) w) }
+    ensures room { (n : ℕ) → Room table.old log.old n → Room table.new log.new n }
+    ensures tgids { tgids table.new.table ≡ tgids table.old.table }
+{
+    table.leave_for_exec(tgid, id, end, &mut log.ended);
+}
+
+/// An execing thread takes the place and the id of its dead leader, and what waits for it goes with it.
+pub fn take_place(table: &mut Table, id: u32)
+    ensures shows { (l : Log) (w : Work) → Shows table.old l w → Shows table.new l (take_place id w) }
+    ensures room { (l : Log) (n : ℕ) → Room table.old l n → Room table.new l n }
+    ensures tgids { tgids table.new.table ≡ tgids table.old.table }
+{
+    let Some(thread) = table.find(id) else {
+        return;
+    };
+    if thread.life.is_execing() && !thread.is_leader() {
+        table.rename(id);
+    }
 }
 
 /// The death of a group began.
