@@ -1,3 +1,4 @@
 pub mod Exits
 pub mod Tracing
 pub mod Restarts
+pub mod Execs

@@ -2,12 +2,14 @@
 //! what is due.
 #![tactic(auto)]
 
+mod execs;
 mod exits;
 mod questions;
 mod restarts;
 mod tracing;
 mod traps;
 
+pub use execs::{check_exec, check_finish, exec, finish};
 pub use exits::{check_exit, check_exit_group, exit, exit_group};
 pub use tracing::{
     attach, check_attach, check_interrupt, check_seize, check_set_options, interrupt, seize,
