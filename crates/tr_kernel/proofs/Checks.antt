@@ -15,7 +15,7 @@ use Rattle.tr_model.specs.Steps.{takes_instance}
 use Rattle.tr_model.specs.Takes.{can_take}
 use Rattle.tr_model.proofs.Takable.{can_take_best}
 use Rattle.tr_model.specs.Laws.{IsCause}
-use Rattle.tr_model.specs.Preferred.{best_for, checked, is_served, preferred, quiet_or, refused, refused_or, take_choice, taking}
+use Rattle.tr_model.specs.Preferred.{best_for, check, is_served, preferred, quiet_or, refused, refused_or, take_choice, taking}
 use Rattle.tr_model.specs.Tables.{Table, thread_of}
 use Rattle.tr_model.proofs.Causing.{causes_are_causes}
 
@@ -42,7 +42,7 @@ due_parts None (Some r) p c e = absurd cc
 due_parts None None p c e = (refl, refl, sym (due_same p c e))
 
 -- no cause is found where an event is served and not refused
-served : (T : Table) (a : ℕ) (e : Event) → refused T a e ≡ None → cause_of T a e ≡ None
+served : (T : Table) (a : ℕ) (e : Event) → cause_of T a e ≡ None → cause_of T a e ≡ None
 served T a e h = go (is_served e) h
   where
     go : (b : Bool) → (if b then cause_of T a e else Some Unmodelled) ≡ None → cause_of T a e ≡ None
@@ -50,14 +50,14 @@ served T a e h = go (is_served e) h
     go false q = absurd (none_some Unmodelled (sym q))
 
 pub record Dues (T : Table) (a : ℕ) (e : Event) (c : Choice) : Type 0 where
-  pub no_cause : refused T a e ≡ None
+  pub no_cause : cause_of T a e ≡ None
   pub not_refused : cause_of T a e ≡ None
   pub not_quiet : quiet_of T a e ≡ None
   pub preferred : c ≡ preferred T a e
 
-pub dues : (T : Table) (a : ℕ) (e : Event) (c : Choice) → checked T a e ≡ Ok (Due c) → Dues T a e c
+pub dues : (T : Table) (a : ℕ) (e : Event) (c : Choice) → check T a e ≡ Ok (Due c) → Dues T a e c
 dues T a e c h =
-    let p = due_parts (refused T a e) (quiet_of T a e) (preferred T a e) c h in
+    let p = due_parts (cause_of T a e) (quiet_of T a e) (preferred T a e) c h in
     record { no_cause = p.0; not_refused = served T a e p.0; not_quiet = p.1; preferred = p.2 }
 
 -- What is quiet
@@ -67,8 +67,8 @@ quiet_parts (Some why) q p r e = absurd cc
 quiet_parts None (Some x) p r e = (refl, ap Some (quiet_same x r e))
 quiet_parts None None p r e = absurd cc
 
-pub quiets : (T : Table) (a : ℕ) (e : Event) (r : Reply) → checked T a e ≡ Ok (Quiet r) → (refused T a e ≡ None) × (quiet_of T a e ≡ Some r)
-quiets T a e r h = quiet_parts (refused T a e) (quiet_of T a e) (preferred T a e) r h
+pub quiets : (T : Table) (a : ℕ) (e : Event) (r : Reply) → check T a e ≡ Ok (Quiet r) → (cause_of T a e ≡ None) × (quiet_of T a e ≡ Some r)
+quiets T a e r h = quiet_parts (cause_of T a e) (quiet_of T a e) (preferred T a e) r h
 
 -- What is refused
 
@@ -77,10 +77,10 @@ err_parts (Some x) q p why e = ap Some (err_same x why e)
 err_parts None (Some x) p why e = absurd cc
 err_parts None None p why e = absurd cc
 
-pub refusals : (T : Table) (a : ℕ) (e : Event) (why : Refusal) → checked T a e ≡ Err why → refused T a e ≡ Some why
-refusals T a e why h = err_parts (refused T a e) (quiet_of T a e) (preferred T a e) why h
+pub refusals : (T : Table) (a : ℕ) (e : Event) (why : Refusal) → check T a e ≡ Err why → cause_of T a e ≡ Some why
+refusals T a e why h = err_parts (cause_of T a e) (quiet_of T a e) (preferred T a e) why h
 
-pub is_cause : (T : Table) (a : ℕ) (e : Event) (why : Refusal) → refused T a e ≡ Some why → IsCause why
+pub is_cause : (T : Table) (a : ℕ) (e : Event) (why : Refusal) → cause_of T a e ≡ Some why → IsCause why
 is_cause T a e why h = go (is_served e) h
   where
     unmodelled : (x : Refusal) → Unmodelled ≡ x → IsCause x

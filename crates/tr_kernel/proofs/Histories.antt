@@ -14,7 +14,7 @@ use Rattle.tr_model.specs.Laws.{OneFate}
 use Rattle.tr_model.proofs.Reports.{consumed_once}
 use Rattle.tr_model.proofs.Tally.{fates_agree}
 use Rattle.tr_model.specs.Journals.{HasFate, consumed_by, fate_of, how_many, or_pending, totals, totals, Replay, ended_as, ended_by, held_numbers, numbers_of, occurs, waiting_numbers}
-use Rattle.tr_model.specs.Preferred.{checked, preferred}
+use Rattle.tr_model.specs.Preferred.{check, preferred}
 use Rattle.tr_model.specs.Steps.{Admits, Step, after, work_of}
 use Rattle.tr_model.specs.Tables.{Table}
 use Rattle.tr_model.proofs.Bounds.{entries_are_bounded, some_id_is_free}
@@ -69,7 +69,7 @@ tally_is k h = rw (all Pending, all Merged, all Delivered, all Suppressed, all F
 
 -- What is due is a step
 
-pub due_step : (k : State) (a : ℕ) (e : Event) (c : Choice) → IsHistory k → checked k.table a e ≡ Ok (Due c)
+pub due_step : (k : State) (a : ℕ) (e : Event) (c : Choice) → IsHistory k → check k.table a e ≡ Ok (Due c)
     → let x : Entry = record { actor = a; event = e; choice = c } in Step k.table x (after k.table x).reply (after k.table x).work.table
 due_step k a e c h d =
     let z = dues k.table a e c d in
@@ -148,7 +148,7 @@ history_goes_on k x h s = record {
   fates = fates_go_on k x (after k.table x).reply h s;
 }
 
-pub entered : (k : State) (a : ℕ) (e : Event) (c : Choice) → IsHistory k → checked k.table a e ≡ Ok (Due c)
+pub entered : (k : State) (a : ℕ) (e : Event) (c : Choice) → IsHistory k → check k.table a e ≡ Ok (Due c)
     → let x : Entry = record { actor = a; event = e; choice = c } in
     IsEntered k a e (after k.table x).reply (record { start = k.start; table = (work_of k.table x).table; journal = k.journal ++ x ∷ []; replies = k.replies ++ (after k.table x).reply ∷ []; fates = fates_after k.fates (work_of k.table x) })
 entered k a e c h d =
@@ -178,16 +178,16 @@ left_by k x = record { start = k.start; table = (work_of k.table x).table; journ
 left_is : (k : State) (x : Entry) (r : Reply) (n : State) → IsWritten k x r n → left_by k x ≡ n
 left_is k x r n w = rw (← w.fates, ← w.start, ← w.table, ← w.reply, ← w.journal, ← w.replies) refl
 
-pub written_history : (k : State) (x : Entry) (r : Reply) (n : State) → IsHistory k → checked k.table x.actor x.event ≡ Ok (Due x.choice) → IsWritten k x r n → IsHistory n
+pub written_history : (k : State) (x : Entry) (r : Reply) (n : State) → IsHistory k → check k.table x.actor x.event ≡ Ok (Due x.choice) → IsWritten k x r n → IsHistory n
 written_history k x r n h d w = subst IsHistory (left_is k x r n w) (history_goes_on k x h (due_step k x.actor x.event x.choice h d))
 
-pub written_entered : (k : State) (x : Entry) (r : Reply) (n : State) → IsHistory k → checked k.table x.actor x.event ≡ Ok (Due x.choice) → IsWritten k x r n → IsEntered k x.actor x.event r n
+pub written_entered : (k : State) (x : Entry) (r : Reply) (n : State) → IsHistory k → check k.table x.actor x.event ≡ Ok (Due x.choice) → IsWritten k x r n → IsEntered k x.actor x.event r n
 written_entered k x r n h d w = subst (λ q. IsEntered k x.actor x.event q n) (sym w.reply) (subst (IsEntered k x.actor x.event (after k.table x).reply) (left_is k x r n w) (entered k x.actor x.event x.choice h d))
 
-pub few_after : (k : State) (x : Entry) → IsHistory k → checked k.table x.actor x.event ≡ Ok (Due x.choice) → AcceptsFew k.table (work_of k.table x).table
+pub few_after : (k : State) (x : Entry) → IsHistory k → check k.table x.actor x.event ≡ Ok (Due x.choice) → AcceptsFew k.table (work_of k.table x).table
 few_after k x h d = accepts_few k x (after k.table x).reply (work_of k.table x).table h (due_step k x.actor x.event x.choice h d)
 
-pub written_few : (k : State) (x : Entry) (r : Reply) (n : State) → IsHistory k → checked k.table x.actor x.event ≡ Ok (Due x.choice) → IsWritten k x r n → AcceptsFew k.table n.table
+pub written_few : (k : State) (x : Entry) (r : Reply) (n : State) → IsHistory k → check k.table x.actor x.event ≡ Ok (Due x.choice) → IsWritten k x r n → AcceptsFew k.table n.table
 written_few k x r n h d w = subst (AcceptsFew k.table) (sym w.table) (few_after k x h d)
 
 pub few_same : (T : Table) → AcceptsFew T T

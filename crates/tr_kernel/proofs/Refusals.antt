@@ -4,11 +4,11 @@ use Rattle.tr_model.specs.declared.events.Event.{Event}
 use Rattle.tr_model.specs.declared.replies.Refusal.{Refusal}
 use Rattle.tr_model.specs.declared.replies.Refusal.TheVariants.{Perm, Srch, Io, Child, Again, NoMemory, Inval, Busy, NotDue, NotRunning, Unmodelled, ThreadedExec, JournalFull}
 use Rattle.tr_model.specs.declared.replies.Reply.{Reply}
-use Rattle.tr_model.specs.Preferred.{checked, refused}
+use Rattle.tr_model.specs.Preferred.{check, refused}
 use Rattle.tr_kernel.specs.States.{IsRefusal, State}
 use Rattle.tr_kernel.proofs.Checks.{is_cause, refusals}
 
-pub refusal : (k : State) (a : ℕ) (e : Event) (why : Refusal) → checked k.table a e ≡ Err why → IsRefusal k a e why
+pub refusal : (k : State) (a : ℕ) (e : Event) (why : Refusal) → check k.table a e ≡ Err why → IsRefusal k a e why
 refusal k a e Perm h = refusals k.table a e Perm h
 refusal k a e Srch h = refusals k.table a e Srch h
 refusal k a e Io h = refusals k.table a e Io h
@@ -26,5 +26,5 @@ refusal k a e JournalFull h = absurd ((is_cause k.table a e JournalFull (refusal
 some_same : (x y : Refusal) → Some x ≡ Some y → x ≡ y
 some_same x y e = cc
 
-pub only_cause : (k : State) (a : ℕ) (e : Event) (found : Refusal) → checked k.table a e ≡ Err found → (why : Refusal) → refused k.table a e ≡ Some why → ◌≡◌ {A = Result Reply Refusal} (Err found) (Err why)
+pub only_cause : (k : State) (a : ℕ) (e : Event) (found : Refusal) → check k.table a e ≡ Err found → (why : Refusal) → cause_of k.table a e ≡ Some why → ◌≡◌ {A = Result Reply Refusal} (Err found) (Err why)
 only_cause k a e found h why r = ap (λ x. Err x) (some_same found why (sym (refusals k.table a e found h) ∙ r))

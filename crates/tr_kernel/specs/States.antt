@@ -36,7 +36,7 @@ pub record IsHistory (k : State) : Type 0 where
 
 -- the event has an answer without an entry
 pub record IsQuiet (old : State) (actor : ℕ) (event : Event) (reply : Reply) (new : State) : Type 0 where
-  pub no_cause : refused old.table actor event ≡ None
+  pub no_cause : cause_of old.table actor event ≡ None
   pub quiet : quiet_of old.table actor event ≡ Some reply
   pub same : new ≡ old
 
@@ -46,7 +46,7 @@ entry_of old actor event = record { actor = actor; event = event; choice = prefe
 
 -- the event makes one entry, which is a step
 pub record IsEntered (old : State) (actor : ℕ) (event : Event) (reply : Reply) (new : State) : Type 0 where
-  pub no_cause : refused old.table actor event ≡ None
+  pub no_cause : cause_of old.table actor event ≡ None
   pub step : Step old.table (entry_of old actor event) reply new.table
   pub start : new.start ≡ old.start
   pub journal : new.journal ≡ old.journal ++ entry_of old actor event ∷ []
@@ -54,14 +54,14 @@ pub record IsEntered (old : State) (actor : ℕ) (event : Event) (reply : Reply)
 
 -- the event is to make an entry
 pub record IsDue (old : State) (actor : ℕ) (event : Event) : Type 0 where
-  pub no_cause : refused old.table actor event ≡ None
+  pub no_cause : cause_of old.table actor event ≡ None
   pub not_quiet : quiet_of old.table actor event ≡ None
 
 -- for a cause; for a full journal, or for want of memory where it isn't full
 abbrev pub IsRefusal : State → ℕ → Event → Refusal → Type 0
 IsRefusal old actor event JournalFull = IsDue old actor event × (old.table.entries ≤ length old.journal)
 IsRefusal old actor event NoMemory = IsDue old actor event × (length old.journal < old.table.entries)
-IsRefusal old actor event why = refused old.table actor event ≡ Some why
+IsRefusal old actor event why = cause_of old.table actor event ≡ Some why
 
 -- an entry accepts at most 1,024 signals
 pub record AcceptsFew (old new : Table) : Type 0 where

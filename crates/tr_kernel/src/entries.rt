@@ -1,6 +1,6 @@
 ghost use Rattle.std.specs.Prelude.{◌≡◌, ◌∷◌, ◌++◌, [], length, IfOk, OnOk, OnErr, Ok};
 ghost use Rattle.tr_model.specs.declared.checked.Checked.TheVariants.{Due};
-ghost use Rattle.tr_model.specs.Preferred.{checked};
+ghost use Rattle.tr_model.specs.Preferred.{check};
 ghost use Rattle.tr_model.specs.Steps.{after};
 ghost use Rattle.tr_kernel.specs.Fates.{fates_after};
 ghost use Rattle.tr_kernel.specs.States.{AcceptsFew};
@@ -33,7 +33,7 @@ pub(crate) fn write_entry(
     event: &Event,
     choice: &Choice,
 ) -> Result<Reply, AllocError>
-    requires due { checked table.old.table actor event.now ≡ Ok (Due choice.now) }
+    requires due { check table.old.table actor event.now ≡ Ok (Due choice.now) }
     requires counted { length fates.old.items ≡ table.old.table.accepted }
     requires bounded { AcceptsFew table.old.table (after table.old.table (record { actor = actor; event = event.now; choice = choice.now })).work.table }
     ensures table { OnOk result (table.new.table ≡ (after table.old.table (record { actor = actor; event = event.now; choice = choice.now })).work.table) }

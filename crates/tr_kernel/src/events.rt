@@ -1,6 +1,6 @@
 ghost use Rattle.std.specs.Prelude.{◌≡◌, IfOk, OnErr, Ok};
 ghost use Rattle.tr_model.specs.declared.checked.Checked.TheVariants.{Due};
-ghost use Rattle.tr_model.specs.Preferred.{checked};
+ghost use Rattle.tr_model.specs.Preferred.{check};
 ghost use Rattle.tr_model.specs.Steps.{after};
 ghost use Rattle.tr_signals.specs.Makes.{Makes};
 
@@ -16,7 +16,7 @@ use tr_table::Table;
 
 /// Whether an event is refused, answered at once, or due.
 pub(crate) fn check(table: &Table, actor: u32, event: &Event) -> Result<Checked, Refusal>
-    ensures { result ≡ checked table.now.table actor event.now }
+    ensures { result ≡ check table.now.table actor event.now }
 {
     match event {
         Event::Kill { tgid, sig } => check_kill(table, *tgid, *sig),
@@ -37,7 +37,7 @@ pub(crate) fn change(
     event: &Event,
     choice: &Choice,
 ) -> Result<Made, AllocError>
-    requires { checked table.old.table actor event.now ≡ Ok (Due choice.now) }
+    requires { check table.old.table actor event.now ≡ Ok (Due choice.now) }
     ensures made { IfOk result (λ m. Makes m table.new.table (after table.old.table (record { actor = actor; event = event.now; choice = choice.now }))) }
     ensures err { OnErr result (table.new.table ≡ table.old.table) }
 {

@@ -3,7 +3,7 @@ ghost use Rattle.tr_model.specs.declared.checked.Checked.TheVariants.{Due};
 ghost use Rattle.tr_model.specs.declared.replies.Refusal.{Refusal};
 ghost use Rattle.tr_model.specs.Journals.{HasFate, consumed_by, ended_by, fate_of, occurs, totals};
 ghost use Rattle.tr_model.specs.Laws.{OneFate};
-ghost use Rattle.tr_model.specs.Preferred.{checked, refused};
+ghost use Rattle.tr_model.specs.Preferred.{check, refused};
 ghost use Rattle.tr_table.specs.Starts.{is_good, table_of};
 ghost use Rattle.tr_kernel.specs.States.{AcceptsFew, IsDue, IsEntered, IsHistory, IsQuiet, IsRefusal, opened};
 
@@ -127,7 +127,7 @@ impl Kernel {
         ensures ok { IfOk result (λ reply. IsQuiet self.old actor event reply self.new ⊎ IsEntered self.old actor event reply self.new) }
         ensures err { IfErr result (λ why. IsRefusal self.old actor event why) }
         ensures unchanged { OnErr result (self.new ≡ self.old) }
-        ensures cause { (why : Refusal) → refused self.old.table actor event ≡ Some why → result ≡ Err why }
+        ensures cause { (why : Refusal) → cause_of self.old.table actor event ≡ Some why → result ≡ Err why }
         ensures full { IsDue self.old actor event → self.old.table.entries ≤ length self.old.journal → result ≡ Err Refusal.JournalFull }
         ensures bounded { AcceptsFew self.old.table self.new.table }
         ensures history { IsHistory self.new }
@@ -146,7 +146,7 @@ impl Kernel {
 
     /// Makes the entry of an event that is due. Where memory is refused nothing has changed.
     fn enter(&mut self, actor: u32, event: &Event, choice: &Choice) -> Result<Reply, Refusal>
-        requires { checked self.old.table actor event.now ≡ Ok (Due choice.now) }
+        requires { check self.old.table actor event.now ≡ Ok (Due choice.now) }
         ensures ok { IfOk result (λ reply. IsEntered self.old actor event.now reply self.new) }
         ensures err { IfErr result (λ why. why ≡ Refusal.NoMemory) }
         ensures unchanged { OnErr result (self.new ≡ self.old) }

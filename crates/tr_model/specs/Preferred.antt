@@ -10,7 +10,6 @@ use Rattle.tr_model.specs.declared.events.Choice.{Choice}
 use Rattle.tr_model.specs.declared.events.Event.{Event}
 use Rattle.tr_model.specs.declared.events.Event.TheVariants as event
 use Rattle.tr_model.specs.declared.replies.Refusal.{Refusal}
-use Rattle.tr_model.specs.declared.replies.Refusal.TheVariants.{Unmodelled}
 use Rattle.tr_model.specs.declared.replies.Reply.{Reply}
 use Rattle.tr_model.specs.declared.rows.Target.TheVariants as target
 use Rattle.tr_model.specs.Causes.{cause_of, quiet_of}
@@ -92,20 +91,3 @@ refused_or None r = r
 -- refused for its first cause, answered at once, or due with this product's choice
 abbrev pub check : Table → ℕ → Event → Result Checked Refusal
 check T a e = refused_or (cause_of T a e) (quiet_or (quiet_of T a e) (preferred T a e))
-
--- the events that the kernel serves so far
-abbrev pub is_served : Event → Bool
-is_served (event.Kill g s) = true
-is_served (event.Tgkill g id s) = true
-is_served (event.Sigqueue g s v) = true
-is_served (event.Mask id set) = true
-is_served (event.Pause id) = true
-is_served (event.Take id) = true
-is_served _ = false
-
--- why an event is refused: one that isn't served is outside this model so far
-abbrev pub refused : Table → ℕ → Event → Option Refusal
-refused T a e = if is_served e then cause_of T a e else Some Unmodelled
-
-abbrev pub checked : Table → ℕ → Event → Result Checked Refusal
-checked T a e = refused_or (refused T a e) (quiet_or (quiet_of T a e) (preferred T a e))

@@ -5,7 +5,7 @@ use Rattle.tr_model.specs.declared.checked.Checked.TheVariants.{Quiet, Due}
 use Rattle.tr_model.specs.declared.events.Choice.{Choice}
 use Rattle.tr_model.specs.declared.events.Entry.{Entry}
 use Rattle.tr_model.specs.declared.replies.Refusal.{Refusal}
-use Rattle.tr_model.specs.Preferred.{checked}
+use Rattle.tr_model.specs.Preferred.{check}
 use Rattle.tr_model.specs.declared.replies.Refusal.TheVariants.{JournalFull}
 use Rattle.tr_model.specs.Steps.{after}
 use Rattle.tr_model.specs.Runs.{Answer, Call, Entered, Read, Refused, State, call_by, calls_by, made, unless_full}
@@ -27,9 +27,9 @@ made_after xs s c (Err why) = ap (λ ys. record s { answers = ys }) (append_asso
 made_after xs s c (Ok (Quiet r)) = ap (λ ys. record s { answers = ys }) (append_assoc xs s.answers _)
 made_after xs s c (Ok (Due x)) = unless_full_after xs s (record { actor = c.actor; event = c.event; choice = x }) (nat_le s.table.entries (length s.journal))
 
-calls_after : (xs : List Answer) (s : State) (cs : List Call) → calls_by checked (after_answers xs s) cs ≡ after_answers xs (calls_by checked s cs)
+calls_after : (xs : List Answer) (s : State) (cs : List Call) → calls_by check (after_answers xs s) cs ≡ after_answers xs (calls_by check s cs)
 calls_after xs s [] = refl
-calls_after xs s (c ∷ cs) = ap (λ t. calls_by checked t cs) (made_after xs s c (checked s.table c.actor c.event)) ∙ calls_after xs (call_by checked s c) cs
+calls_after xs s (c ∷ cs) = ap (λ t. calls_by check t cs) (made_after xs s c (check s.table c.actor c.event)) ∙ calls_after xs (call_by check s c) cs
 
 -- One call is answered once, and its answer tells of its entry
 record IsAnswered (s t : State) (x : Answer) : Type 0 where
@@ -47,23 +47,23 @@ made_is_answered s c (Ok (Due x)) = due_is_answered (record { actor = c.actor; e
 
 -- The first call, and the others
 
-calls_from : (s t : State) (x : Answer) (cs : List Call) → s.answers ≡ [] → IsAnswered s t x → calls_by checked t cs ≡ after_answers (x ∷ []) (calls_by checked (unanswered t) cs)
+calls_from : (s t : State) (x : Answer) (cs : List Call) → s.answers ≡ [] → IsAnswered s t x → calls_by check t cs ≡ after_answers (x ∷ []) (calls_by check (unanswered t) cs)
 calls_from s t x cs none h =
     let first : t.answers ≡ x ∷ [] = rw none at h.answers in
-    ap (λ ys. calls_by checked (record t { answers = ys }) cs) first ∙ calls_after (x ∷ []) (unanswered t) cs
+    ap (λ ys. calls_by check (record t { answers = ys }) cs) first ∙ calls_after (x ∷ []) (unanswered t) cs
 
 pub calls_text_cons : (s : State) (c : Call) (cs : List Call) → calls_text s (c ∷ cs) ≡ calls_text s (c ∷ []) ++ calls_text (state_after s (c ∷ [])) cs
 unfolding calls_text state_after
 calls_text_cons s c cs =
-    let t = call_by checked (unanswered s) c in
-    let a = made_is_answered (unanswered s) c (checked s.table c.actor c.event) in
+    let t = call_by check (unanswered s) c in
+    let a = made_is_answered (unanswered s) c (check s.table c.actor c.event) in
     rw (calls_from (unanswered s) t a.0 cs refl a.1, a.1.answers, a.1.entries) (sym (append_assoc (line (length s.journal + entries_of a.0) c a.0) [] _))
 
 pub state_after_cons : (s : State) (c : Call) (cs : List Call) → state_after s (c ∷ cs) ≡ state_after (state_after s (c ∷ [])) cs
 unfolding state_after
 state_after_cons s c cs =
-    let t = call_by checked (unanswered s) c in
-    let a = made_is_answered (unanswered s) c (checked s.table c.actor c.event) in
+    let t = call_by check (unanswered s) c in
+    let a = made_is_answered (unanswered s) c (check s.table c.actor c.event) in
     ap unanswered (calls_from (unanswered s) t a.0 cs refl a.1)
 
 -- Some calls, and the others

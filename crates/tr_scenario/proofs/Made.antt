@@ -4,7 +4,7 @@ use Rattle.std.proofs.lemmas.Bool.Decides.{nat_tests}
 use Rattle.tr_model.specs.declared.replies.Refusal.{Refusal}
 use Rattle.tr_model.specs.declared.replies.Refusal.TheVariants.{JournalFull, NoMemory}
 use Rattle.tr_model.specs.declared.replies.Reply.{Reply}
-use Rattle.tr_model.specs.Preferred.{checked}
+use Rattle.tr_model.specs.Preferred.{check}
 use Rattle.tr_model.specs.Runs.{Answer, Call, Entered, Read, Refused, call_by}
 use Rattle.tr_kernel.specs.States.{State, IsDue, IsEntered, IsQuiet, IsRefusal}
 use Rattle.tr_kernel.proofs.Called.{called_entered, called_quiet, called_refused, run_at}
@@ -15,7 +15,7 @@ use Rattle.tr_scenario.specs.RunTexts.{calls_text, state_after, unanswered}
 -- the call was made, and answered so
 pub record IsMade (old new : State) (c : Call) (x : Answer) : Type 0 where
   pub start : new.start ≡ old.start
-  pub called : call_by checked (run_at old []) c ≡ run_at new (x ∷ [])
+  pub called : call_by check (run_at old []) c ≡ run_at new (x ∷ [])
   pub entries : length new.journal ≡ length old.journal + entries_of x
 
 made_read : (old new : State) (c : Call) (r : Reply) → IsQuiet old c.actor c.event r new → IsMade old new c (told (length old.journal) (length new.journal) (Ok r))
@@ -43,7 +43,7 @@ not_full old new c r true h e full =
     cc
 
 refused_is_made : (old new : State) (c : Call) (why : Refusal) (result : Result Reply Refusal) → result ≡ Err why → new ≡ old →
-    (why ≡ NoMemory) ⊎ (call_by checked (run_at old []) c ≡ run_at old (Refused why ∷ [])) → (result ≡ Err NoMemory) ⊎ IsMade old new c (Refused why)
+    (why ≡ NoMemory) ⊎ (call_by check (run_at old []) c ≡ run_at old (Refused why ∷ [])) → (result ≡ Err NoMemory) ⊎ IsMade old new c (Refused why)
 refused_is_made old new c why result e same (inl m) = inl (e ∙ ap Err m)
 refused_is_made old new c why result e same (inr called) = inr (record { start = ap (λ k. k.start) same; called = rw same called; entries = rw same (omega arith) })
 

@@ -2,7 +2,7 @@
 use Rattle.std.specs.Prelude.{ℕ, List, [], ◌∷◌, ◌++◌, codes, length, replicate}
 use Rattle.tr_tracee.specs.declared.thread.Thread.{Thread}
 use Rattle.tr_model.specs.Journals.{totals}
-use Rattle.tr_model.specs.Preferred.{checked}
+use Rattle.tr_model.specs.Preferred.{check}
 use Rattle.tr_model.specs.Runs.{Call, State, begun_at, calls_by}
 use Rattle.tr_model.specs.Tables.{Table}
 use Rattle.tr_table.specs.Starts.{table_of}
@@ -27,11 +27,11 @@ unanswered s = record s { answers = [] }
 
 -- what more calls lead to
 unfoldable pub state_after : State → List Call → State
-state_after s cs = unanswered (calls_by checked (unanswered s) cs)
+state_after s cs = unanswered (calls_by check (unanswered s) cs)
 
 -- the lines of more calls
 unfoldable pub calls_text : State → List Call → List ℕ
-calls_text s cs = lines (length s.journal) cs (calls_by checked (unanswered s) cs).answers
+calls_text s cs = lines (length s.journal) cs (calls_by check (unanswered s) cs).answers
 
 -- The end
 

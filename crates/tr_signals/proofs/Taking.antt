@@ -19,7 +19,7 @@ use Rattle.tr_pending.specs.Waiting.{best_of}
 use Rattle.tr_model.specs.Causes.{can_take_thread, first, nothing_where, thread_then, unless, where_is}
 use Rattle.tr_model.specs.Journals.{IsSorted, taken_by}
 use Rattle.tr_model.specs.Moves.{Work, at, begin, entered_now, hold, holding, instance_in, on_instance, on_thread, pulled}
-use Rattle.tr_model.specs.Preferred.{best_for, checked, quiet_or, refused_or, take_choice, taking}
+use Rattle.tr_model.specs.Preferred.{best_for, check, quiet_or, refused_or, take_choice, taking}
 use Rattle.tr_model.specs.Steps.{takes_instance}
 use Rattle.tr_model.specs.Tables.{Table, queue, thread_in, thread_of}
 use Rattle.tr_model.specs.Takes.{can_take, choices, numbered, take, take_numbered, taken_from}
@@ -66,7 +66,7 @@ none_some n e = cc
 some_same : (m n : ℕ) → Some m ≡ Some n → m ≡ n
 some_same m n e = cc
 
-pub is_due : (T : Table) (a id n : ℕ) → checked T a (Take id) ≡ Ok (Due (takes_instance n)) → IsDue T id n
+pub is_due : (T : Table) (a id n : ℕ) → check T a (Take id) ≡ Ok (Due (takes_instance n)) → IsDue T id n
 unfolding chosen
 is_due T a id n e = go (thread_of T id) refl e
   where

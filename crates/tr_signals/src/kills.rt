@@ -3,7 +3,7 @@ ghost use Rattle.tr_model.specs.declared.checked.Checked.TheVariants.{Due};
 ghost use Rattle.tr_model.specs.declared.events.Event.TheVariants.{Kill, Sigqueue, Tgkill};
 ghost use Rattle.tr_model.specs.declared.rows.Target.TheVariants as target;
 ghost use Rattle.tr_model.specs.Causes.{is_in};
-ghost use Rattle.tr_model.specs.Preferred.{checked};
+ghost use Rattle.tr_model.specs.Preferred.{check};
 ghost use Rattle.tr_model.specs.Sends.{info};
 ghost use Rattle.tr_model.specs.Steps.{after, fate_in, no_choice};
 ghost use Rattle.tr_model.specs.Tables.{group_of, thread_of};
@@ -92,7 +92,7 @@ fn send_numbered(
 /// Whether a kill(2) of a group is refused, answered at once, or due. EINVAL comes for a signal above 64, then ESRCH
 /// where there is no such group, then EAGAIN for a real-time signal where as many wait as the queue limit says.
 pub fn check_kill(table: &Table, tgid: u32, sig: u8) -> Result<Checked, Refusal>
-    ensures { (actor : ℕ) → result ≡ checked table.now.table actor (Kill tgid sig) }
+    ensures { (actor : ℕ) → result ≡ check table.now.table actor (Kill tgid sig) }
 {
     check_send(table, table.group(tgid).is_some(), sig)
 }
@@ -106,7 +106,7 @@ pub fn kill(
     tgid: u32,
     sig: u8,
 ) -> Result<Made, AllocError>
-    requires due { checked table.old.table actor (Kill tgid sig) ≡ Ok (Due no_choice) }
+    requires due { check table.old.table actor (Kill tgid sig) ≡ Ok (Due no_choice) }
     ensures did { IfOk result (λ m. Makes m table.new.table (after table.old.table (record { actor = actor; event = Kill tgid sig; choice = no_choice }))) }
     ensures taken_from { IfOk result (λ m. m.taken_from ≡ None) }
     ensures err { OnErr result (table.new.table ≡ table.old.table) }
@@ -131,7 +131,7 @@ fn is_in(table: &Table, tgid: u32, tid: u32) -> bool
 /// Whether a tgkill(2) of a thread is refused, answered at once, or due. EINVAL comes for a signal above 64, then ESRCH
 /// where the group has no such thread, then EAGAIN as for kill(2).
 pub fn check_tgkill(table: &Table, tgid: u32, tid: u32, sig: u8) -> Result<Checked, Refusal>
-    ensures { (actor : ℕ) → result ≡ checked table.now.table actor (Tgkill tgid tid sig) }
+    ensures { (actor : ℕ) → result ≡ check table.now.table actor (Tgkill tgid tid sig) }
 {
     check_send(table, is_in(table, tgid, tid), sig)
 }
@@ -146,7 +146,7 @@ pub fn tgkill(
     tid: u32,
     sig: u8,
 ) -> Result<Made, AllocError>
-    requires due { checked table.old.table actor (Tgkill tgid tid sig) ≡ Ok (Due no_choice) }
+    requires due { check table.old.table actor (Tgkill tgid tid sig) ≡ Ok (Due no_choice) }
     ensures did { IfOk result (λ m. Makes m table.new.table (after table.old.table (record { actor = actor; event = Tgkill tgid tid sig; choice = no_choice }))) }
     ensures taken_from { IfOk result (λ m. m.taken_from ≡ None) }
     ensures err { OnErr result (table.new.table ≡ table.old.table) }
@@ -161,7 +161,7 @@ pub fn tgkill(
 
 /// Whether a sigqueue(3) to a group is refused, answered at once, or due, as for kill(2).
 pub fn check_sigqueue(table: &Table, tgid: u32, sig: u8, value: i32) -> Result<Checked, Refusal>
-    ensures { (actor : ℕ) → result ≡ checked table.now.table actor (Sigqueue tgid sig value) }
+    ensures { (actor : ℕ) → result ≡ check table.now.table actor (Sigqueue tgid sig value) }
 {
     check_send(table, table.group(tgid).is_some(), sig)
 }
@@ -176,7 +176,7 @@ pub fn sigqueue(
     sig: u8,
     value: i32,
 ) -> Result<Made, AllocError>
-    requires due { checked table.old.table actor (Sigqueue tgid sig value) ≡ Ok (Due no_choice) }
+    requires due { check table.old.table actor (Sigqueue tgid sig value) ≡ Ok (Due no_choice) }
     ensures did { IfOk result (λ m. Makes m table.new.table (after table.old.table (record { actor = actor; event = Sigqueue tgid sig value; choice = no_choice }))) }
     ensures taken_from { IfOk result (λ m. m.taken_from ≡ None) }
     ensures err { OnErr result (table.new.table ≡ table.old.table) }

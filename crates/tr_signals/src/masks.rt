@@ -2,7 +2,7 @@ ghost use Rattle.std.specs.Prelude.{◌≡◌, ℕ, IfOk, OnErr, None, Ok};
 ghost use Rattle.tr_model.specs.declared.checked.Checked.TheVariants.{Due};
 ghost use Rattle.tr_model.specs.declared.events.Event.TheVariants.{Mask, Pause};
 ghost use Rattle.tr_model.specs.Causes.{first, script};
-ghost use Rattle.tr_model.specs.Preferred.{best_for, checked};
+ghost use Rattle.tr_model.specs.Preferred.{best_for, check};
 ghost use Rattle.tr_model.specs.Steps.{after, no_choice};
 ghost use Rattle.tr_model.specs.Takes.{can_take};
 ghost use Rattle.tr_signals.specs.Makes.{Makes};
@@ -87,7 +87,7 @@ pub fn change_own(table: &mut Table, alloc: Global, tid: u32, change: &Own) -> R
 /// Whether a thread's setting of its mask is refused or due. ESRCH comes where there is no such thread, then NotRunning
 /// and Busy as for each operation of a thread's own.
 pub fn check_mask(table: &Table, tid: u32, set: SigSet) -> Result<Checked, Refusal>
-    ensures { (actor : ℕ) → result ≡ checked table.now.table actor (Mask tid set) }
+    ensures { (actor : ℕ) → result ≡ check table.now.table actor (Mask tid set) }
 {
     check_script(table, tid)
 }
@@ -101,7 +101,7 @@ pub fn mask(
     tid: u32,
     set: SigSet,
 ) -> Result<Made, AllocError>
-    requires due { checked table.old.table actor (Mask tid set) ≡ Ok (Due no_choice) }
+    requires due { check table.old.table actor (Mask tid set) ≡ Ok (Due no_choice) }
     ensures did { IfOk result (λ m. Makes m table.new.table (after table.old.table (record { actor = actor; event = Mask tid set; choice = no_choice }))) }
     ensures taken_from { IfOk result (λ m. m.taken_from ≡ None) }
     ensures err { OnErr result (table.new.table ≡ table.old.table) }
@@ -111,7 +111,7 @@ pub fn mask(
 
 /// Whether a thread's pause(2) is refused or due, as for each operation of a thread's own.
 pub fn check_pause(table: &Table, tid: u32) -> Result<Checked, Refusal>
-    ensures { (actor : ℕ) → result ≡ checked table.now.table actor (Pause tid) }
+    ensures { (actor : ℕ) → result ≡ check table.now.table actor (Pause tid) }
 {
     check_script(table, tid)
 }
@@ -119,7 +119,7 @@ pub fn check_pause(table: &Table, tid: u32) -> Result<Checked, Refusal>
 /// A pause(2) that is due: the thread pauses until it takes a signal that it catches. Where memory is refused, or the
 /// numbers are used up, nothing has changed.
 pub fn pause(table: &mut Table, alloc: Global, actor: u32, tid: u32) -> Result<Made, AllocError>
-    requires due { checked table.old.table actor (Pause tid) ≡ Ok (Due no_choice) }
+    requires due { check table.old.table actor (Pause tid) ≡ Ok (Due no_choice) }
     ensures did { IfOk result (λ m. Makes m table.new.table (after table.old.table (record { actor = actor; event = Pause tid; choice = no_choice }))) }
     ensures taken_from { IfOk result (λ m. m.taken_from ≡ None) }
     ensures err { OnErr result (table.new.table ≡ table.old.table) }

@@ -5,7 +5,7 @@ ghost use Rattle.tr_model.specs.declared.checked.Checked.TheVariants.{Due};
 ghost use Rattle.tr_model.specs.declared.events.Event.TheVariants.{Take};
 ghost use Rattle.tr_model.specs.Journals.{taken};
 ghost use Rattle.tr_model.specs.Moves.{Work};
-ghost use Rattle.tr_model.specs.Preferred.{checked};
+ghost use Rattle.tr_model.specs.Preferred.{check};
 ghost use Rattle.tr_model.specs.Steps.{after, takes_instance};
 ghost use Rattle.tr_model.specs.Takes.{act, deliver, take, taken_from, took};
 ghost use Rattle.tr_table.specs.Changes.{tgids};
@@ -42,7 +42,7 @@ fn taking(n: u64) -> Choice
 /// NotRunning where it isn't free, and Busy where it has a mark to serve first.
 #[tactic(auto, using(tr_model::proofs::Takable::can_take_best))]
 pub fn check_take(table: &Table, tid: u32) -> Result<Checked, Refusal>
-    ensures { (actor : ℕ) → result ≡ checked table.now.table actor (Take tid) }
+    ensures { (actor : ℕ) → result ≡ check table.now.table actor (Take tid) }
 {
     let Some(thread) = table.find(tid) else {
         return Err(Refusal::Srch);
@@ -114,7 +114,7 @@ pub fn take(
     tid: u32,
     n: u64,
 ) -> Result<Made, AllocError>
-    requires due { checked table.old.table actor (Take tid) ≡ Ok (Due (takes_instance n)) }
+    requires due { check table.old.table actor (Take tid) ≡ Ok (Due (takes_instance n)) }
     ensures did { IfOk result (λ m. Makes m table.new.table (after table.old.table (record { actor = actor; event = Take tid; choice = takes_instance n }))) }
     ensures taken_from { IfOk result (λ m. m.taken_from ≡ queue_of (taken table.old.table (record { actor = actor; event = Take tid; choice = takes_instance n }))) }
     ensures err { OnErr result (table.new.table ≡ table.old.table) }

@@ -1,6 +1,6 @@
 use Rattle.std.proofs.Common.{◌≡◌, Ok, refl, sym, subst}
 use Rattle.tr_model.specs.declared.checked.Checked.TheVariants.{Due}
-use Rattle.tr_model.specs.Preferred.{checked}
+use Rattle.tr_model.specs.Preferred.{check}
 use Rattle.tr_kernel.specs.States.{State}
 use Rattle.tr_kernel.proofs.Histories.{counted, few_after, few_same, written_entered, written_history}
 use Rattle.tr_kernel.proofs.kernels.Kernel.enter.Goals as goal
@@ -11,12 +11,12 @@ write_entry-made-requires-clause-counted c = counted _ c.self.invariant
 
 pub write_entry-made-requires-clause-bounded : goal.write_entry-made-requires-clause-bounded
 write_entry-made-requires-clause-bounded c =
-    let due = subst (λ (k : State). checked k.table c.args.actor c.args.event.now ≡ Ok (Due c.args.choice.now)) (sym c.self.view_is) c.requires in
+    let due = subst (λ (k : State). check k.table c.args.actor c.args.event.now ≡ Ok (Due c.args.choice.now)) (sym c.self.view_is) c.requires in
     few_after _ (record { actor = c.args.actor; event = c.args.event.now; choice = c.args.choice.now }) c.self.invariant due
 
 pub invariant_of-self : goal.invariant_of-self
 invariant_of-self c =
-    let due = subst (λ (k : State). checked k.table c.args.actor c.args.event.now ≡ Ok (Due c.args.choice.now)) (sym c.self.view_is) c.requires in
+    let due = subst (λ (k : State). check k.table c.args.actor c.args.event.now ≡ Ok (Due c.args.choice.now)) (sym c.self.view_is) c.requires in
     elim c.match-made.branch [
       | in-Ok w ↦
           let e = w.in-Ok.ensures in
@@ -26,7 +26,7 @@ invariant_of-self c =
 
 pub returns-clause-history : goal.returns-clause-history
 returns-clause-history c =
-    let due = subst (λ (k : State). checked k.table c.args.actor c.args.event.now ≡ Ok (Due c.args.choice.now)) (sym c.self.view_is) c.requires in
+    let due = subst (λ (k : State). check k.table c.args.actor c.args.event.now ≡ Ok (Due c.args.choice.now)) (sym c.self.view_is) c.requires in
     elim c.match-made.branch [
       | in-Ok w ↦
           let e = w.in-Ok.ensures in
@@ -36,7 +36,7 @@ returns-clause-history c =
 
 pub returns-clause-ok : goal.returns-clause-ok
 returns-clause-ok c =
-    let due = subst (λ (k : State). checked k.table c.args.actor c.args.event.now ≡ Ok (Due c.args.choice.now)) (sym c.self.view_is) c.requires in
+    let due = subst (λ (k : State). check k.table c.args.actor c.args.event.now ≡ Ok (Due c.args.choice.now)) (sym c.self.view_is) c.requires in
     elim c.match-made.branch [
       | in-Ok w ↦
           let e = w.in-Ok.ensures in
@@ -47,7 +47,7 @@ returns-clause-ok c =
 
 pub returns-clause-bounded : goal.returns-clause-bounded
 returns-clause-bounded c =
-    let due = subst (λ (k : State). checked k.table c.args.actor c.args.event.now ≡ Ok (Due c.args.choice.now)) (sym c.self.view_is) c.requires in
+    let due = subst (λ (k : State). check k.table c.args.actor c.args.event.now ≡ Ok (Due c.args.choice.now)) (sym c.self.view_is) c.requires in
     elim c.match-made.branch [
       | in-Ok w ↦
           let e = w.in-Ok.ensures in

@@ -1,6 +1,6 @@
 use Rattle.std.proofs.Common.{◌≡◌, inl, Ok, Err, refl, sym, ap, ◌∙◌, subst}
 use Rattle.tr_model.specs.declared.checked.Checked.TheVariants.{Quiet}
-use Rattle.tr_model.specs.Preferred.{checked}
+use Rattle.tr_model.specs.Preferred.{check}
 use Rattle.tr_kernel.specs.States.{State}
 use Rattle.tr_kernel.proofs.Checks.{quiets}
 use Rattle.tr_kernel.proofs.Refusals.{only_cause, refusal}
@@ -9,15 +9,15 @@ use Rattle.tr_kernel.proofs.kernels.Kernel.step.Goals as goal
 pub returns-in-Err-clause-err : goal.returns-in-Err-clause-err
 returns-in-Err-clause-err c =
     refusal c.args.self.now c.args.actor c.args.event c.in-Err.why
-    (subst (λ (k : State). checked k.table c.args.actor c.args.event ≡ Err c.in-Err.why) c.self.view_is (sym c.in-Err.ensures))
+    (subst (λ (k : State). check k.table c.args.actor c.args.event ≡ Err c.in-Err.why) c.self.view_is (sym c.in-Err.ensures))
 
 pub returns-in-Err-clause-cause : goal.returns-in-Err-clause-cause
 returns-in-Err-clause-cause c =
     only_cause c.args.self.now c.args.actor c.args.event c.in-Err.why
-    (subst (λ (k : State). checked k.table c.args.actor c.args.event ≡ Err c.in-Err.why) c.self.view_is (sym c.in-Err.ensures))
+    (subst (λ (k : State). check k.table c.args.actor c.args.event ≡ Err c.in-Err.why) c.self.view_is (sym c.in-Err.ensures))
 
 pub returns-in-Ok-Quiet-clause-ok : goal.returns-in-Ok-Quiet-clause-ok
 returns-in-Ok-Quiet-clause-ok c =
     let q = quiets c.args.self.now.table c.args.actor c.args.event c.in-Ok-Quiet.reply
-    (subst (λ (k : State). checked k.table c.args.actor c.args.event ≡ Ok (Quiet c.in-Ok-Quiet.reply)) c.self.view_is (sym c.in-Ok-Quiet.ensures ∙ ap (λ x. Ok x) c.in-Ok-Quiet.field-0-is)) in
+    (subst (λ (k : State). check k.table c.args.actor c.args.event ≡ Ok (Quiet c.in-Ok-Quiet.reply)) c.self.view_is (sym c.in-Ok-Quiet.ensures ∙ ap (λ x. Ok x) c.in-Ok-Quiet.field-0-is)) in
     inl (record { no_cause = q.0; quiet = q.1; same = refl })
