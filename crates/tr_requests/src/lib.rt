@@ -2,6 +2,8 @@
 //! what is due.
 #![tactic(auto)]
 
+mod deaths;
 mod exits;
 
+pub use deaths::{check_die, die};
 pub use exits::{check_exit, check_exit_group, exit, exit_group};
