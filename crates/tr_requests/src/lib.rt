@@ -4,6 +4,8 @@
 
 mod deaths;
 mod exits;
+mod waits;
 
 pub use deaths::{check_die, die};
 pub use exits::{check_exit, check_exit_group, exit, exit_group};
+pub use waits::check_wait;
