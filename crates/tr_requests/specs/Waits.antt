@@ -1,13 +1,15 @@
 -- What a wait asks for, and what a check answers of it.
-use Rattle.std.specs.Prelude.{ℕ, List, [], ◌∷◌, ◌&&◌, Option, Some, None, filter, is_some}
+use Rattle.std.specs.Prelude.{ℕ, List, [], ◌∷◌, ◌&&◌, Option, Some, None, if◌then◌else◌, filter, is_some}
 use Rattle.tr_wait.specs.declared.waits.Which.{Which}
 use Rattle.tr_wait.specs.Words.{asks_for}
 use Rattle.tr_tracee.specs.declared.thread.Thread.{Thread}
-use Rattle.tr_tracee.specs.Threads.{is_tracee_of}
+use Rattle.tr_tracee.specs.Threads.{is_leader, is_tracee_of}
 use Rattle.tr_model.specs.declared.checked.Checked.{Checked}
 use Rattle.tr_model.specs.declared.checked.Checked.TheVariants.{Due, Quiet}
 use Rattle.tr_model.specs.declared.replies.Reply.TheVariants.{Nothing}
 use Rattle.tr_model.specs.declared.rows.Group.{Group}
+use Rattle.tr_model.specs.Ends.{pass_on, remove_thread}
+use Rattle.tr_model.specs.Moves.{Work}
 use Rattle.tr_model.specs.Steps.{gives_report}
 use Rattle.tr_model.specs.Tables.{Table, thread_of}
 
@@ -28,3 +30,7 @@ first_number (r ∷ rs) = Some r
 abbrev pub giving : Option ℕ → Checked
 giving None = Quiet Nothing
 giving (Some r) = Due (gives_report r)
+
+-- a tracer's wait for a death: the dead thread goes, but a leader's death is then reported to the starter
+abbrev pub consume_death : Thread → Work → Work
+consume_death t w = if is_leader t then pass_on t t.report w else remove_thread t w

@@ -13,7 +13,7 @@ ghost use Rattle.tr_signals.specs.Makes.{Makes};
 ghost use Rattle.tr_signals.specs.Shows.{Room, Shows};
 ghost use Rattle.tr_table.specs.Changes.{tgids};
 ghost use Rattle.tr_table.specs.declared.logs.Log.{Log};
-ghost use Rattle.tr_requests.specs.Waits.{asked_among, first_number, giving, led_among};
+ghost use Rattle.tr_requests.specs.Waits.{asked_among, consume_death, first_number, giving, led_among};
 
 use crate::deaths::{pass_on, remove_thread};
 use std::alloc::{AllocError, Global};
@@ -113,4 +113,96 @@ pub fn check_wait(table: &Table, actor: u32, which: Which) -> Result<Checked, Re
         return Err(Refusal::Child);
     }
     Ok(giving(first_ready(table.threads(), actor, which)))
+}
+
+/// What a wait that gives a report of this thread or group tells.
+fn waited(id: u32, report: &Option<Report>) -> Reply
+    ensures { result ≡ waited id report.now }
+{
+    match report {
+        Some(report) => Reply::Waited {
+            id,
+            word: encode(report.status).0,
+            report: report.number,
+        },
+        None => Reply::Nothing,
+    }
+}
+
+fn waited_note(group: &Option<Group>) -> Reply
+    ensures { result ≡ waited_note group.now }
+{
+    match group {
+        Some(group) => waited(group.tgid, &group.note),
+        None => Reply::Nothing,
+    }
+}
+
+fn waited_thread(thread: &Option<Thread>, group: &Option<Group>) -> Reply
+    ensures { result ≡ waited_thread thread.now group.now }
+{
+    match thread {
+        Some(thread) => waited(thread.id, &thread.report),
+        None => waited_note(group),
+    }
+}
+
+fn consume_death(table: &mut Table, log: &Log, thread: &Thread)
+    requires { Room table.old log.now 1 }
+    ensures shows { (l : Log) (w : Work) → Shows table.old l w → Shows table.new l (consume_death thread.now w) }
+    ensures room { (l : Log) (n : ℕ) → Room table.old l (n + 1) → Room table.new l n }
+    ensures fewer { length (tgids table.new.table) ≤ length (tgids table.old.table) }
+{
+    if thread.is_leader() {
+        pass_on(table, log, thread);
+    } else {
+        remove_thread(table, thread);
+    }
+}
+
+/// A tracer's wait gives the report of a thread. A dead thread goes then, but a leader's death passes to the starter.
+fn consume(table: &mut Table, log: &Log, thread: &Thread)
+    requires { Room table.old log.now 1 }
+    ensures shows { (l : Log) (w : Work) → Shows table.old l w → Shows table.new l (consume thread.now w) }
+    ensures room { (l : Log) (n : ℕ) → Room table.old l (n + 1) → Room table.new l n }
+    ensures fewer { length (tgids table.new.table) ≤ length (tgids table.old.table) }
+{
+    if thread.life.is_dead() {
+        consume_death(table, log, thread);
+    } else {
+        change_thread(table, thread.id, &Own::WithdrawReport);
+    }
+}
+
+fn consume_some(table: &mut Table, log: &Log, thread: &Option<Thread>)
+    requires { Room table.old log.now 1 }
+    ensures shows { (l : Log) (w : Work) → Shows table.old l w → Shows table.new l (on_thread thread.now consume w) }
+    ensures room { (l : Log) (n : ℕ) → Room table.old l (n + 1) → Room table.new l n }
+    ensures fewer { length (tgids table.new.table) ≤ length (tgids table.old.table) }
+{
+    if let Some(thread) = thread {
+        consume(table, log, thread);
+    }
+}
+
+/// A wait of a tracer that is due, for the report of this number: waitpid(2) with `__WALL` and `WNOHANG`. The report is
+/// gone then. A death that is told takes the thread out of the table, but a leader stays for the starter, who is told
+/// next. Where memory is refused, or the numbers are used up, nothing has changed.
+pub fn wait(
+    table: &mut Table,
+    alloc: Global,
+    actor: u32,
+    which: Which,
+    r: u64,
+) -> Result<Made, AllocError>
+    requires due { check table.old.table actor (Wait which) ≡ Ok (Due (gives_report r)) }
+    ensures did { IfOk result (λ m. Makes m table.new.table (after table.old.table (record { actor = actor; event = Wait which; choice = gives_report r }))) }
+    ensures taken_from { IfOk result (λ m. m.taken_from ≡ None) }
+    ensures err { OnErr result (table.new.table ≡ table.old.table) }
+{
+    let thread = ready_thread(table.threads(), actor, which, r).copied();
+    let reply = waited_thread(&thread, &None);
+    let log = reserve(table, alloc, 1)?;
+    consume_some(table, &log, &thread);
+    Ok(finish(table, log, &reply))
 }
