@@ -34,3 +34,7 @@ giving (Some r) = Due (gives_report r)
 -- a tracer's wait for a death: the dead thread goes, but a leader's death is then reported to the starter
 abbrev pub consume_death : Thread → Work → Work
 consume_death t w = if is_leader t then pass_on t t.report w else remove_thread t w
+
+abbrev pub or_number : Option ℕ → Option ℕ → Option ℕ
+or_number (Some r) later = Some r
+or_number None later = later
