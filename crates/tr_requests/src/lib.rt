@@ -8,4 +8,4 @@ mod waits;
 
 pub use deaths::{check_die, die};
 pub use exits::{check_exit, check_exit_group, exit, exit_group};
-pub use waits::{check_starter_wait, check_wait, wait};
+pub use waits::{check_starter_wait, check_wait, starter_wait, wait};

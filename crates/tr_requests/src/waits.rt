@@ -293,12 +293,7 @@ fn ready_of_group(table: &Table, flags: WaitFlags, group: &Group) -> Option<u64>
 }
 
 /// The first report, in table order, of the groups that the starter asks for.
-fn first_for_starter(
-    table: &Table,
-    groups: &[Group],
-    which: Which,
-    flags: WaitFlags,
-) -> Option<u64>
+fn first_for_starter(table: &Table, groups: &[Group], which: Which, flags: WaitFlags) -> Option<u64>
     ensures { result ≡ first_number (flat_map (ready_of_group table.now.table flags) (led_among table.now.table which groups.now)) }
 {
     for group in groups {
@@ -367,10 +362,52 @@ pub fn check_starter_wait(
     if actor != 1 || !has_led(table, table.groups(), which) {
         return Err(Refusal::Child);
     }
-    Ok(giving(first_for_starter(
-        table,
-        table.groups(),
-        which,
-        flags,
-    )))
+    Ok(giving(first_for_starter(table, table.groups(), which, flags)))
+}
+
+/// The starter's wait gives the note of a group.
+fn consume_note(table: &mut Table, group: &Option<Group>)
+    ensures shows { (l : Log) (w : Work) → Shows table.old l w → Shows table.new l (consume_note group.now w) }
+    ensures room { (l : Log) (n : ℕ) → Room table.old l n → Room table.new l n }
+    ensures tgids { tgids table.new.table ≡ tgids table.old.table }
+{
+    if let Some(group) = group {
+        change_group(table, group.tgid, &GroupChange::DropNote);
+    }
+}
+
+/// The starter's wait gives a leader's death, and the leader goes; else the note of a group.
+fn starter_takes(table: &mut Table, thread: &Option<Thread>, group: &Option<Group>)
+    ensures shows { (l : Log) (w : Work) → Shows table.old l w → Shows table.new l (starter_takes thread.now group.now w) }
+    ensures room { (l : Log) (n : ℕ) → Room table.old l n → Room table.new l n }
+    ensures fewer { length (tgids table.new.table) ≤ length (tgids table.old.table) }
+{
+    match thread {
+        Some(thread) => remove_thread(table, thread),
+        None => consume_note(table, group),
+    }
+}
+
+/// A wait of the starter that is due, for the report of this number: waitpid(2) with `WNOHANG`. A leader whose death is
+/// told goes, and the group with its last thread; a note that is told is gone then. Where memory is refused, or the
+/// numbers are used up, nothing has changed.
+pub fn starter_wait(
+    table: &mut Table,
+    alloc: Global,
+    actor: u32,
+    which: Which,
+    flags: WaitFlags,
+    r: u64,
+) -> Result<Made, AllocError>
+    requires due { check table.old.table actor (StarterWait which flags) ≡ Ok (Due (gives_report r)) }
+    ensures did { IfOk result (λ m. Makes m table.new.table (after table.old.table (record { actor = actor; event = StarterWait which flags; choice = gives_report r }))) }
+    ensures taken_from { IfOk result (λ m. m.taken_from ≡ None) }
+    ensures err { OnErr result (table.new.table ≡ table.old.table) }
+{
+    let thread = ready_death(table, table.groups(), which, r).copied();
+    let group = ready_note(table, table.groups(), which, flags, r).copied();
+    let reply = waited_thread(&thread, &group);
+    let log = reserve(table, alloc, 0)?;
+    starter_takes(table, &thread, &group);
+    Ok(finish(table, log, &reply))
 }

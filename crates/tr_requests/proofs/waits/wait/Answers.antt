@@ -1,4 +1,4 @@
-use Rattle.std.proofs.Common.{◌≡◌, ◌+◌, ◌≤◌, ◌∙◌, ap, arith, length}
+use Rattle.std.proofs.Common.{◌≡◌, ◌≤◌, ◌∙◌, ap, arith, length}
 use Rattle.tr_model.specs.Waits.{ready_thread, with_report}
 use Rattle.tr_table.specs.Changes.{tgids}
 use Rattle.tr_signals.proofs.Rooms.{room_fits}
@@ -16,6 +16,6 @@ pub returns-clause-did : goal.returns-clause-did
 returns-clause-did c =
     let T = c.args.table.now.table in
     let e : c.copied-thread.result ≡ ready_thread T c.args.actor c.args.which c.args.r
-        = c.copied-thread.ensures ∙ (c.ready_thread.ensures ∙ ap (λ ts. with_report (asked_among ts c.args.actor c.args.which) c.args.r) c.threads.ensures) in
+    = c.copied-thread.ensures ∙ (c.ready_thread.ensures ∙ ap (λ ts. with_report (asked_among ts c.args.actor c.args.which) c.args.r) c.threads.ensures) in
     let m = c.finish.ensures.makes _ (c.consume_some.ensures.shows _ _ c.in_ok-log.ensures.shows) in
     rw (c.waited_thread-reply.ensures, e) at m
