@@ -1,4 +1,5 @@
-pub mod Exits
-pub mod Tracing
-pub mod Restarts
 pub mod Execs
+pub mod Exits
+pub mod Restarts
+pub mod Tracing
+pub mod Waits

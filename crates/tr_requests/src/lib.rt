@@ -2,19 +2,23 @@
 //! what is due.
 #![tactic(auto)]
 
+mod deaths;
 mod execs;
 mod exits;
 mod questions;
 mod restarts;
 mod tracing;
 mod traps;
+mod waits;
 
+pub use deaths::{check_die, die};
 pub use execs::{check_exec, check_finish, exec, finish};
 pub use exits::{check_exit, check_exit_group, exit, exit_group};
+pub use questions::{check_event_message, check_signal_info};
+pub use restarts::{check_cont, check_detach, check_listen, cont, detach, listen};
 pub use tracing::{
     attach, check_attach, check_interrupt, check_seize, check_set_options, interrupt, seize,
     set_options,
 };
-pub use questions::{check_event_message, check_signal_info};
-pub use restarts::{check_cont, check_detach, check_listen, cont, detach, listen};
 pub use traps::{check_trap, trap};
+pub use waits::{check_starter_wait, check_wait, starter_wait, wait};

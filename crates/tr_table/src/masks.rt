@@ -5,7 +5,7 @@ ghost use Rattle.tr_table.specs.Changes.{queue_in};
 
 use crate::table::Table;
 use crate::waiting::same_target;
-use tr_model::{Target, Waiting};
+use tr_model::{Group, Target, Waiting};
 use tr_sigset::SigSet;
 use tr_tracee::Thread;
 
@@ -24,6 +24,13 @@ impl Table {
         ensures { result.now ≡ self.now.table.threads }
     {
         self.threads.as_slice()
+    }
+
+    /// The records of the groups, in table order.
+    pub fn groups(&self) -> &[Group]
+        ensures { result.now ≡ self.now.table.groups }
+    {
+        self.groups.as_slice()
     }
 }
 
