@@ -12,6 +12,7 @@ mod opened;
 mod queues;
 mod reads;
 mod records;
+mod rows;
 mod starts;
 mod table;
 #[cfg(test)]
@@ -22,6 +23,7 @@ mod waiting;
 pub use groups::GroupChange;
 pub use items::Items;
 pub use logs::Log;
+pub use rows::Rows;
 pub use starts::{GroupStart, Start};
 pub use table::Table;
 pub use threads::Own;
