@@ -2,5 +2,8 @@ pub mod Found
 pub mod GoodStarts
 pub mod Helds
 pub mod Ids
+pub mod Keeping
 pub mod Orders
+pub mod Rosters
 pub mod SetActions
+pub mod Started

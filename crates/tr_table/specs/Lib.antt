@@ -3,4 +3,5 @@ pub mod View
 pub mod Order
 pub mod Changes
 pub mod Queues
+pub mod Rows
 pub mod Held

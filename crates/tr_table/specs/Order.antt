@@ -1,9 +1,20 @@
 -- What every table keeps.
-use Rattle.std.specs.Prelude.{ℕ, List}
+use Rattle.std.specs.Prelude.{ℕ, ◌≤◌, List, filter, length}
+use Rattle.tr_tracee.specs.declared.thread.Thread.{Thread}
+use Rattle.tr_tracee.specs.Threads.{in_group}
 use Rattle.tr_model.specs.declared.rows.Waiting.{Waiting}
-use Rattle.tr_model.specs.Journals.{AllUpTo, IsSorted}
+use Rattle.tr_model.specs.Journals.{AllUpTo, IsSorted, ids_of, occurs}
 
 -- what waits stands in order of acceptance, and was accepted
 pub record IsOrdered (waiting : List Waiting) (accepted : ℕ) : Type 0 where
   pub sorted : IsSorted waiting
   pub numbered : AllUpTo accepted waiting
+
+-- no two threads have one id, and no group has more than 64 threads
+pub record IsRoster (threads : List Thread) : Type 0 where
+  pub distinct : (n : ℕ) → occurs n (ids_of threads) ≤ 1
+  pub few : (g : ℕ) → length (filter (in_group g) threads) ≤ 64
+
+pub record IsTable (threads : List Thread) (waiting : List Waiting) (accepted : ℕ) : Type 0 where
+  pub roster : IsRoster threads
+  pub ordered : IsOrdered waiting accepted

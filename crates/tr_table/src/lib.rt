@@ -13,6 +13,7 @@ mod opened;
 mod queues;
 mod reads;
 mod records;
+mod rows;
 mod starts;
 mod table;
 #[cfg(test)]
@@ -23,6 +24,7 @@ mod waiting;
 pub use groups::GroupChange;
 pub use items::Items;
 pub use logs::Log;
+pub use rows::Rows;
 pub use starts::{GroupStart, Start};
 pub use table::Table;
 pub use threads::Own;

@@ -34,7 +34,7 @@ impl Table {
     }
 }
 
-fn mask_of(waiting: &[Waiting], target: Target) -> SigSet
+pub(crate) fn mask_of(waiting: &[Waiting], target: Target) -> SigSet
     ensures { IsMask result (queue_in target waiting.now) }
 {
     let mut mask = SigSet::empty();

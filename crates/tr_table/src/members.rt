@@ -1,21 +1,25 @@
+ghost use Rattle.std.specs.Prelude.{◌≡◌, ◌<◌, Some};
+ghost use Rattle.tr_group.specs.Members.{count_in, member};
+
 use crate::table::Table;
 use tr_group::Members;
 use tr_tracee::Thread;
 
-impl Members for Table {
-    ghost use Rattle.tr_table.specs.View.{View};
+// The threads of one group, by their place in it. No call here takes memory.
 
-    ghost threads = { λ v. v.table.threads };
-
-    fn count(&self, tgid: u32) -> usize {
+impl Table {
+    /// How many threads the group has.
+    pub fn count(&self, tgid: u32) -> usize
+        ensures { result ≡ count_in tgid self.now.table.threads }
+    {
         self.threads.count(tgid)
     }
 
-    fn at(&self, tgid: u32, i: usize) -> Thread {
+    /// The record of the thread at a place of the group, from 0, in table order.
+    pub fn at(&self, tgid: u32, i: usize) -> Thread
+        requires { i < count_in tgid self.now.table.threads }
+        ensures { Some result ≡ member tgid i self.now.table.threads }
+    {
         self.threads.at(tgid, i)
-    }
-
-    fn put(&mut self, tgid: u32, i: usize, thread: Thread) {
-        self.threads.put(tgid, i, thread);
     }
 }

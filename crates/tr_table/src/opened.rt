@@ -1,7 +1,7 @@
 ghost use Rattle.std.specs.Prelude.{◌≡◌, ◌-◌, ◌≤◌, IfOk, IsTrue, length, map};
 ghost use Rattle.std.specs.List.{list_all};
 ghost use Rattle.tr_model.specs.Sends.{set_at};
-ghost use Rattle.tr_table.specs.Starts.{all_started, group_started, name_fits, name_of, names_fit, table_of, thread_started, threads_started, with_actions};
+ghost use Rattle.tr_table.specs.Starts.{all_started, group_started, is_good, name_fits, name_of, table_of, thread_started, threads_started, with_actions};
 
 use crate::logs::Log;
 use crate::starts::{GroupStart, Start};
@@ -17,9 +17,10 @@ use tr_tracee::{Life, Thread};
 // The table that a kernel starts with.
 
 impl Table {
-    /// The table of a start: its threads run untraced, and nothing waits. No name may have more than 15 bytes.
+    /// The table of a good start: its threads run untraced, and nothing waits. What a good start is, `Start::is_good`
+    /// tests.
     pub fn open(start: &Start, alloc: Global) -> Result<Table, AllocError>
-        requires { IsTrue (names_fit start.now) }
+        requires { IsTrue (is_good start.now) }
         ensures { IfOk result (λ t. t.table ≡ table_of start.now) }
     {
         let threads = started_threads(start.groups.as_slice(), alloc)?;

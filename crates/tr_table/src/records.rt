@@ -1,6 +1,7 @@
-ghost use Rattle.std.specs.Prelude.{◌≡◌, ◌++◌, ◌∷◌, ◌==◌, [], OnErr, OnOk, is_some};
+ghost use Rattle.std.specs.Prelude.{◌≡◌, ◌<◌, ◌++◌, ◌∷◌, ◌==◌, [], None, OnErr, OnOk, Some, is_some, length};
+ghost use Rattle.tr_tracee.specs.declared.thread.Thread.{Thread};
 ghost use Rattle.tr_model.specs.Moves.{at, begin, changed, drop_empty, dropped, group_changed, placed, remove_dead};
-ghost use Rattle.tr_model.specs.Tables.{thread_of};
+ghost use Rattle.tr_model.specs.Tables.{members, thread_of};
 
 use crate::groups::{drop_empty, replace_group};
 use crate::table::Table;
@@ -15,15 +16,18 @@ use tr_tracee::Thread;
 impl Table {
     ghost use Rattle.tr_table.specs.View.{View};
 
-    /// A thread comes last in the table. Where memory is refused nothing has changed.
+    /// A thread comes last in the table. No thread may have its id yet, and its group at most 63 threads. Where memory is
+    /// refused nothing has changed.
     pub fn add(&mut self, thread: &Thread) -> Result<(), AllocError>
+        requires new_id { thread_of self.old.table thread.now.id ≡ None }
+        requires room { length (members self.old.table thread.now.group) < 64 }
         ensures ok { OnOk result (self.new ≡ record self.old { table = record self.old.table { threads = self.old.table.threads ++ thread.now ∷ [] } }) }
         ensures err { OnErr result (self.new ≡ self.old) }
     {
         self.threads.add(thread)
     }
 
-    /// The first thread with the id goes, and the threads after it move up. Says whether there was one. What waits for
+    /// The thread with the id goes, and the threads after it move up. Says whether there was one. What waits for
     /// it stays.
     pub fn remove(&mut self, id: u32) -> bool
         ensures was { result ≡ is_some (thread_of self.old.table id) }
@@ -60,8 +64,9 @@ impl Table {
         }
     }
 
-    /// Writes the record of a thread, over that of the first thread with its id.
+    /// Writes the record of a thread, over that of the thread with its id. Its group stays what it was.
     pub fn put_thread(&mut self, thread: &Thread)
+        requires same_group { (t : Thread) → thread_of self.old.table thread.now.id ≡ Some t → t.group ≡ thread.now.group }
         ensures { self.new ≡ record self.old { table = record self.old.table { threads = changed thread.now.id (λ _. thread.now) self.old.table.threads } } }
     {
         self.threads.replace(thread);

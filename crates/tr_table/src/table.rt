@@ -1,4 +1,5 @@
 ghost use Rattle.std.specs.Prelude.{◌≡◌, ◌+◌, ◌<◌, ◌≤◌, OnOk, OnErr, option_copied};
+ghost use Rattle.tr_model.specs.Journals.{DistinctIds};
 ghost use Rattle.tr_model.specs.Tables.{group_in, thread_in};
 
 use crate::groups::find_group;
@@ -24,7 +25,7 @@ pub struct Table {
 
 impl Model for Table {
     ghost use Rattle.std.specs.Prelude.{◌-◌, vec_len, vec_capacity};
-    ghost use Rattle.tr_table.specs.Order.{IsOrdered};
+    ghost use Rattle.tr_table.specs.Order.{IsTable};
     ghost use Rattle.tr_table.specs.View.{View};
 
     ghost Value = { View };
@@ -34,13 +35,14 @@ impl Model for Table {
       room = vec_capacity t.waiting - vec_len t.waiting;
     } };
 
-    ghost invariant = { λ t. IsOrdered t.waiting.items t.accepted };
+    ghost invariant = { λ t. IsTable t.threads t.waiting.items t.accepted };
 }
 
 impl Table {
-    /// The record of a thread.
+    /// The record of a thread. No two threads have one id.
     pub fn find(&self, id: u32) -> Option<&Thread>
-        ensures { option_copied result ≡ thread_in self.now.table.threads id }
+        ensures found { option_copied result ≡ thread_in self.now.table.threads id }
+        ensures distinct { DistinctIds self.now.table }
     {
         find_thread(self.threads.as_slice(), id)
     }

@@ -1,10 +1,7 @@
-ghost use Rattle.std.specs.Prelude.{IfOk, IsTrue};
-ghost use Rattle.tr_table.specs.Starts.{name_fits, names_fit};
-
 use super::*;
 use std::alloc::{AllocError, Global};
 use std::test::Fail;
-use tr_group::{Action, Members};
+use tr_group::Action;
 use tr_model::{Ending, Fate, Target};
 use tr_pending::{Info, Instance, Put};
 use tr_sigset::{SigSet, Signal};
@@ -25,9 +22,7 @@ fn signal(number: u8) -> Result<Signal, Fail> {
 }
 
 /// Group 100, of threads 100 and 101. USR1 (10) is caught; thread 101 asks to block all signals.
-fn first_group(alloc: Global, caught: Signal) -> Result<GroupStart, AllocError>
-    ensures { IfOk result (λ g. IsTrue (name_fits g)) }
-{
+fn first_group(alloc: Global, caught: Signal) -> Result<GroupStart, AllocError> {
     let none = SigSet::empty();
     let all = SigSet::from_bits(u64::MAX);
     Ok(GroupStart {
@@ -38,9 +33,7 @@ fn first_group(alloc: Global, caught: Signal) -> Result<GroupStart, AllocError>
     })
 }
 
-fn second_group(alloc: Global) -> Result<GroupStart, AllocError>
-    ensures { IfOk result (λ g. IsTrue (name_fits g)) }
-{
+fn second_group(alloc: Global) -> Result<GroupStart, AllocError> {
     Ok(GroupStart {
         tgid: 200,
         name: Items::from_vec(Vec::from_slice(alloc, b"sh")?),
@@ -49,9 +42,7 @@ fn second_group(alloc: Global) -> Result<GroupStart, AllocError>
     })
 }
 
-fn two_groups(alloc: Global, caught: Signal) -> Result<Start, AllocError>
-    ensures { IfOk result (λ s. IsTrue (names_fit s)) }
-{
+fn two_groups(alloc: Global, caught: Signal) -> Result<Start, AllocError> {
     let mut groups = Items::new(alloc);
     groups.push(first_group(alloc, caught)?)?;
     groups.push(second_group(alloc)?)?;
@@ -62,8 +53,12 @@ fn two_groups(alloc: Global, caught: Signal) -> Result<Start, AllocError>
     })
 }
 
+/// The table of the two groups, which are a good start.
 fn open(alloc: Global, caught: Signal) -> Result<Table, AllocError> {
     let start = two_groups(alloc, caught)?;
+    if !start.is_good() {
+        return Err(AllocError);
+    }
     Table::open(&start, alloc)
 }
 
@@ -231,12 +226,21 @@ fn thread(table: &Table, id: u32) -> Result<&Thread, Fail> {
     Ok(table.find(id).ok_or("no such thread")?)
 }
 
+/// Adds a thread with a new id to a group that has a place for it.
+#[tactic(auto, using(crate::proofs::Rosters::counted))]
+fn add_new(table: &mut Table, thread: &Thread) -> Result<(), AllocError> {
+    if table.find(thread.id).is_some() || table.count(thread.group) >= 64 {
+        return Err(AllocError);
+    }
+    table.add(thread)
+}
+
 #[test]
 fn an_added_thread_comes_last(rt: HostRuntime) -> Result<(), Fail> {
     let mut table = opened(rt.alloc())?;
     let mut child = *thread(&table, 101)?;
     child.id = 102;
-    table.add(&child)?;
+    add_new(&mut table, &child)?;
     assert_eq!(rt; (table.count(100), table.thread_count()), (3, 4));
     if table.count(100) > 2 {
         assert_eq!(rt; table.at(100, 2).id, 102);
@@ -255,8 +259,9 @@ fn a_removed_thread_is_gone(rt: HostRuntime) -> Result<(), Fail> {
     Ok(())
 }
 
+#[tactic(auto, using(tr_model::proofs::Kept::itself))]
 fn kill_thread(table: &mut Table, id: u32) -> Result<(), Fail> {
-    let mut dead = *thread(table, id)?;
+    let mut dead = *table.find(id).ok_or("no such thread")?;
     dead.life = Life::Dead(End::Exited(0));
     table.put_thread(&dead);
     Ok(())
@@ -373,6 +378,34 @@ fn a_queue_is_flushed_whole(rt: HostRuntime) -> Result<(), Fail> {
     Ok(())
 }
 
+// The rows of a group
+
+/// Thread 100 blocks nothing; thread 101 all signals but KILL (bit 8) and STOP (bit 18).
+const BLOCKED: u64 = 0xffff_ffff_fffb_feff;
+
+#[test]
+fn rows_are_in_table_order(rt: HostRuntime) -> Result<(), Fail> {
+    let table = with_four(rt.alloc())?;
+    let rows = table.rows(100).ok_or("no group 100")?;
+    assert_eq!(rt; rows.own(), [0, 1 << 33].as_slice());
+    assert_eq!(rt; rows.blocked(), [0, BLOCKED].as_slice());
+    assert_eq!(rt; rows.runnable(), [u64::MAX, u64::MAX].as_slice());
+    assert_eq!(rt; rows.shared(), 1 << 33 | 1 << 9);
+    assert!(rt; table.rows(101).is_none());
+    Ok(())
+}
+
+#[test]
+fn the_dead_block_nothing_and_the_marked_wait(rt: HostRuntime) -> Result<(), Fail> {
+    let mut table = with_four(rt.alloc())?;
+    kill_thread(&mut table, 101)?;
+    table.mark_all(100);
+    let rows = table.rows(100).ok_or("no group 100")?;
+    assert_eq!(rt; rows.blocked(), [0, 0].as_slice());
+    assert_eq!(rt; rows.runnable(), [0, 0].as_slice());
+    Ok(())
+}
+
 // Memory
 
 /// No clause tells of the places of a log that was given back.
@@ -418,9 +451,9 @@ fn a_refused_thread_leaves_the_others(rt: HostRuntime) -> Result<(), Fail> {
     let mut child = *thread(&table, 101)?;
     for id in 102..122 {
         child.id = id;
-        if table.add(&child).is_err() {
+        if add_new(&mut table, &child).is_err() {
             assert!(rt; table.find(id).is_none());
-            table.add(&child)?;
+            add_new(&mut table, &child)?;
         }
     }
     assert_eq!(rt; (table.count(100), table.thread_count()), (22, 23));

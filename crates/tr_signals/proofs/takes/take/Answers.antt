@@ -16,7 +16,7 @@ pub take_instance-requires-clause-takes : goal.take_instance-requires-clause-tak
 take_instance-requires-clause-takes c =
     let T = c.args.table.now.table in
     let d = is_due T c.args.actor c.args.tid c.args.n c.requires.due in
-    let e : thread_of T c.args.tid ≡ Some c.unwrap.result.now = sym c.find.ensures ∙ ap option_copied c.unwrap.ensures in
+    let e : thread_of T c.args.tid ≡ Some c.unwrap.result.now = sym c.find.ensures.found ∙ ap option_copied c.unwrap.ensures in
     let f : instance_in T.waiting c.args.n ≡ Some c.unwrap-instance.result = sym c.instance.ensures.found ∙ c.unwrap-instance.ensures in
     let k = took_of T c.args.tid c.args.n c.unwrap.result.now c.unwrap-instance.result c.instance.ensures.sorted d e f in
     rw c.in_ok-log.ensures.same k.takes
@@ -32,7 +32,7 @@ pub returns-clause-did : goal.returns-clause-did
 returns-clause-did c =
     let T = c.args.table.now.table in
     let d = is_due T c.args.actor c.args.tid c.args.n c.requires.due in
-    let e : thread_of T c.args.tid ≡ Some c.unwrap.result.now = sym c.find.ensures ∙ ap option_copied c.unwrap.ensures in
+    let e : thread_of T c.args.tid ≡ Some c.unwrap.result.now = sym c.find.ensures.found ∙ ap option_copied c.unwrap.ensures in
     let f : instance_in T.waiting c.args.n ≡ Some c.unwrap-instance.result = sym c.instance.ensures.found ∙ c.unwrap-instance.ensures in
     let k = took_of T c.args.tid c.args.n c.unwrap.result.now c.unwrap-instance.result c.instance.ensures.sorted d e f in
     let b = c.settle.ensures.shows _ _ (c.take_instance.ensures.shows _ c.in_ok-log.ensures.shows) in
@@ -43,7 +43,7 @@ pub returns-clause-taken_from : goal.returns-clause-taken_from
 returns-clause-taken_from c =
     let T = c.args.table.now.table in
     let d = is_due T c.args.actor c.args.tid c.args.n c.requires.due in
-    let e : thread_of T c.args.tid ≡ Some c.unwrap.result.now = sym c.find.ensures ∙ ap option_copied c.unwrap.ensures in
+    let e : thread_of T c.args.tid ≡ Some c.unwrap.result.now = sym c.find.ensures.found ∙ ap option_copied c.unwrap.ensures in
     let f : instance_in T.waiting c.args.n ≡ Some c.unwrap-instance.result = sym c.instance.ensures.found ∙ c.unwrap-instance.ensures in
     let k = took_of T c.args.tid c.args.n c.unwrap.result.now c.unwrap-instance.result c.instance.ensures.sorted d e f in
     ap Some c.from_queue-from.ensures ∙ sym k.queue

@@ -4,9 +4,9 @@ use Rattle.tr_table.proofs.Orders.{below_next, ordered_later}
 use Rattle.tr_table.proofs.table.Table.accept.Goals as goal
 
 pub invariant_of-self : goal.invariant_of-self
-invariant_of-self c = ordered_later _ _ c.self.invariant
+invariant_of-self c = record { roster = c.self.invariant.roster; ordered = ordered_later _ _ c.self.invariant.ordered }
 
 pub returns-clause-last : goal.returns-clause-last
 returns-clause-last c =
     let e = ap (λ v. v.table.waiting) c.self.view_is in
-    subst (λ qs. AllBelow (c.self.inside.accepted + 1) qs) e (below_next _ _ c.self.invariant.numbered)
+    subst (λ qs. AllBelow (c.self.inside.accepted + 1) qs) e (below_next _ _ c.self.invariant.ordered.numbered)

@@ -1,5 +1,16 @@
+use Rattle.std.proofs.Common.{◌≡◌, Some, ap, sym, ◌∙◌}
+use Rattle.std.specs.Prelude.{option_copied}
+use Rattle.tr_model.specs.Tables.{thread_in}
+use Rattle.tr_model.proofs.Kept.{itself}
 use Rattle.tr_table.proofs.Orders.{ordered_reaimed}
+use Rattle.tr_table.proofs.Rosters.{roster_placed}
 use Rattle.tr_table.proofs.table.Table.rename.Goals as goal
 
 pub invariant_of-self : goal.invariant_of-self
-invariant_of-self c = rw c.reaim.ensures.items (ordered_reaimed _ _ _ _ c.self.invariant)
+invariant_of-self c =
+    let t = c.in-Some.thread.now in
+    let there : thread_in c.self.inside.threads c.args.id ≡ Some t = ap (λ ts. thread_in ts c.args.id) (sym c.as_slice.ensures) ∙ (sym c.find_thread.ensures ∙ ap option_copied c.in-Some.is) in
+    rw (c.reaim.ensures.items, c.take_place.ensures) (record {
+      roster = roster_placed t _ (itself _ c.args.id t there) c.self.invariant.roster;
+      ordered = ordered_reaimed _ _ _ _ c.self.invariant.ordered;
+    })
