@@ -1,16 +1,17 @@
 -- What happens to a thread's record leaves its id and its group.
-use Rattle.std.proofs.Common.{◌==◌, ℕ, Bool, true, false, List, None, if◌then◌else◌, map, refl}
+use Rattle.std.proofs.Common.{◌≡◌, ◌==◌, ◌≤◌, ℕ, suc, Bool, true, false, List, [], ◌∷◌, None, if◌then◌else◌, filter, length, map, arith, ap, refl}
 use Rattle.tr_wait.specs.declared.status.Status.{Status}
 use Rattle.tr_tracee.specs.declared.life.End.{End}
 use Rattle.tr_tracee.specs.declared.life.Stop.{Stop}
 use Rattle.tr_tracee.specs.declared.thread.Thread.{Thread}
-use Rattle.tr_tracee.specs.Ends.{broken, out}
+use Rattle.tr_tracee.specs.Ends.{broken, broken_by_exec, out, own_end}
 use Rattle.tr_tracee.specs.Lives.{is_dead, is_in_stop}
 use Rattle.tr_tracee.specs.Marks.{cont_noted, marked}
 use Rattle.tr_tracee.specs.Stops.{entered_as, reported, without_trace}
 use Rattle.tr_tracee.specs.Threads.{only, throughout}
 use Rattle.tr_group.specs.Members.{continued_by}
-use Rattle.tr_model.specs.Moves.{changed}
+use Rattle.tr_model.specs.declared.rows.Group.{Group}
+use Rattle.tr_model.specs.Moves.{changed, group_changed}
 use Rattle.tr_table.specs.Changes.{own}
 use Rattle.tr_table.specs.Order.{IsRoster}
 use Rattle.tr_table.specs.declared.threads.Own.{Own}
@@ -52,3 +53,31 @@ roster_entered id n s ts h = roster_changed id (entered_as n s) ts (λ t e. reco
 
 pub roster_reported : (id n : ℕ) (s : Status) (ts : List Thread) → IsRoster ts → IsRoster (changed id (reported n s) ts)
 roster_reported id n s ts h = roster_changed id (reported n s) ts (λ t e. record { id = refl; group = refl }) h
+
+same_by_exec : (id : ℕ) (e : End) (t : Thread) → Same t (broken_by_exec id e t)
+same_by_exec id e t = go (t.id == id)
+  where
+    go : (b : Bool) → Same t (if b then t else broken false (own_end e t.life) t)
+    go true = record { id = refl; group = refl }
+    go false = same_broken false (own_end e t.life) t
+
+pub roster_for_exec : (g id : ℕ) (e : End) (ts : List Thread) → IsRoster ts → IsRoster (map (throughout g (broken_by_exec id e)) ts)
+roster_for_exec g id e ts h = throughout_group g (broken_by_exec id e) (same_by_exec id e) ts h
+
+-- the groups stay as few
+
+pub as_many_changed : (g : ℕ) (f : Group → Group) (xs : List Group) → length (group_changed g f xs) ≡ length xs
+as_many_changed g f [] = refl
+as_many_changed g f (x ∷ xs) = go (x.tgid == g) (as_many_changed g f xs)
+  where
+    go : (b : Bool) → length (group_changed g f xs) ≡ length xs → length (if b then f x ∷ xs else x ∷ group_changed g f xs) ≡ suc (length xs)
+    go true h = refl
+    go false h = ap suc h
+
+pub fewer_kept : {A : Type 0} (p : A → Bool) (xs : List A) → length (filter p xs) ≤ length xs
+fewer_kept p [] = omega arith
+fewer_kept p (x ∷ xs) = go (p x) (fewer_kept p xs)
+  where
+    go : (b : Bool) → length (filter p xs) ≤ length xs → length (if b then x ∷ filter p xs else filter p xs) ≤ suc (length xs)
+    go true h = omega (arith, h)
+    go false h = omega (arith, h)

@@ -1,7 +1,9 @@
 -- The threads of a good start: no two have one id, and no group has more than 64.
-use Rattle.std.proofs.Common.{◌≡◌, ◌==◌, ◌&&◌, ◌||◌, ◌+◌, ◌*◌, ◌≤◌, ◌⊎◌, inl, inr, ℕ, List, [], ◌∷◌, ◌++◌, Bool, true, false, not, if◌then◌else◌, length, map, nat_le, arith, refl, sym, ap, ◌∙◌, true≢false}
+use Rattle.std.proofs.Common.{◌≡◌, ◌==◌, ◌&&◌, ◌||◌, ◌+◌, ◌*◌, ◌≤◌, ◌⊎◌, inl, inr, ℕ, List, [], ◌∷◌, ◌++◌, Bool, true, false, not, if◌then◌else◌, length, map, nat_le, length-append, arith, refl, sym, ap, ◌∙◌, true≢false}
 use Rattle.std.proofs.lemmas.Bool.{and_parts, cases_eq, eq-eqb, ne_eqb}
+use Rattle.std.proofs.lemmas.Bool.{leb-true}
 use Rattle.std.proofs.lemmas.Bool.Decides.{nat_tests}
+use Rattle.std.proofs.lemmas.List.{length-map}
 use Rattle.std.specs.Prelude.{IsTrue}
 use Rattle.std.specs.List.{list_all, list_any}
 use Rattle.tr_sigset.specs.declared.sets.SigSet.{SigSet}
@@ -104,3 +106,27 @@ roster_started s h = record {
 
     ids : IsTrue (no_repeat (ids_started s.groups))
     ids = (and_parts (list_all is_good_id (ids_started s.groups)) (no_repeat (ids_started s.groups)) (and_parts (nat_le (length (ids_started s.groups)) 1024) (list_all is_good_id (ids_started s.groups) && no_repeat (ids_started s.groups)) a.1).1).1
+
+-- each group has its leader, so there are no more groups than threads
+
+some_thread : (g : ℕ) (ts : List (ℕ × SigSet)) → IsTrue (leads g ts) → 1 ≤ length ts
+some_thread g [] h = absurd (true≢false (sym h))
+some_thread g (t ∷ ts) h = omega arith
+
+groups_few : (gs : List GroupStart) → IsTrue (list_all is_good_group gs) → length gs ≤ length (ids_started gs)
+groups_few [] h = omega arith
+groups_few (g ∷ gs) h =
+    let parts = and_parts (is_good_group g) (list_all is_good_group gs) h in
+    let led = and_parts (leads g.tgid g.threads) (nat_le (length g.threads) 64 && (is_good_name g.name && is_good_actions g.actions)) parts.0 in
+    let a = some_thread g.tgid g.threads led.0 in
+    let b : length (map (λ t. t.0) g.threads) ≡ length g.threads = length-map g.threads (λ t. t.0) in
+    let k = length-append (map (λ t. t.0) g.threads) (ids_started gs) in
+    omega (arith, groups_few gs parts.1)
+
+pub few_started : (s : Start) → IsTrue (is_good s) → length s.groups ≤ 1024
+few_started s h =
+    let parts = and_parts (list_all is_good_group s.groups) (nat_le (length (ids_started s.groups)) 1024 && (list_all is_good_id (ids_started s.groups) && no_repeat (ids_started s.groups))) h in
+    let rest = and_parts (nat_le (length (ids_started s.groups)) 1024) (list_all is_good_id (ids_started s.groups) && no_repeat (ids_started s.groups)) parts.1 in
+    let a = groups_few s.groups parts.0 in
+    let b = leb-true (length (ids_started s.groups)) 1024 rest.0 in
+    omega arith

@@ -2,6 +2,7 @@
 use Rattle.std.specs.Prelude.{ℕ, ◌≤◌, List, filter, length}
 use Rattle.tr_tracee.specs.declared.thread.Thread.{Thread}
 use Rattle.tr_tracee.specs.Threads.{in_group}
+use Rattle.tr_model.specs.declared.rows.Group.{Group}
 use Rattle.tr_model.specs.declared.rows.Waiting.{Waiting}
 use Rattle.tr_model.specs.Journals.{AllUpTo, IsSorted, ids_of, occurs}
 
@@ -15,6 +16,8 @@ pub record IsRoster (threads : List Thread) : Type 0 where
   pub distinct : (n : ℕ) → occurs n (ids_of threads) ≤ 1
   pub few : (g : ℕ) → length (filter (in_group g) threads) ≤ 64
 
-pub record IsTable (threads : List Thread) (waiting : List Waiting) (accepted : ℕ) : Type 0 where
+-- no group comes after the start, and a start has at most 1,024
+pub record IsTable (threads : List Thread) (groups : List Group) (waiting : List Waiting) (accepted : ℕ) : Type 0 where
   pub roster : IsRoster threads
+  pub few : length groups ≤ 1024
   pub ordered : IsOrdered waiting accepted

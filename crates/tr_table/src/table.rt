@@ -35,7 +35,7 @@ impl Model for Table {
       room = vec_capacity t.waiting - vec_len t.waiting;
     } };
 
-    ghost invariant = { λ t. IsTable t.threads t.waiting.items t.accepted };
+    ghost invariant = { λ t. IsTable t.threads t.groups.items t.waiting.items t.accepted };
 }
 
 impl Table {

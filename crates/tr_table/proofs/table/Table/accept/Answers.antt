@@ -4,7 +4,7 @@ use Rattle.tr_table.proofs.Orders.{below_next, ordered_later}
 use Rattle.tr_table.proofs.table.Table.accept.Goals as goal
 
 pub invariant_of-self : goal.invariant_of-self
-invariant_of-self c = record { roster = c.self.invariant.roster; ordered = ordered_later _ _ c.self.invariant.ordered }
+invariant_of-self c = record { roster = c.self.invariant.roster; few = c.self.invariant.few; ordered = ordered_later _ _ c.self.invariant.ordered }
 
 pub returns-clause-last : goal.returns-clause-last
 returns-clause-last c =

@@ -11,4 +11,4 @@ invariant_of-self c =
     let e = ap (λ v. v.table.threads) c.self.view_is in
     let new : thread_in ts t.id ≡ None = ap (λ us. thread_in us t.id) e ∙ c.requires.new_id in
     let room : length (filter (in_group t.group) ts) < 64 = rw e c.requires.room in
-    record { roster = roster_grown c.add.result t ts _ c.add.ensures.ok c.add.ensures.err new room c.self.invariant.roster; ordered = c.self.invariant.ordered }
+    record { roster = roster_grown c.add.result t ts _ c.add.ensures.ok c.add.ensures.err new room c.self.invariant.roster; few = c.self.invariant.few; ordered = c.self.invariant.ordered }
