@@ -6,10 +6,10 @@ use Rattle.tr_requests.proofs.restarts.restart_at.Goals as goal
 
 pub restart-requires-clause-there : goal.restart-requires-clause-there
 restart-requires-clause-there c =
-    let e : thread_of c.args.table.now.table c.args.tid ≡ Some c.in-Some.thread.now = sym c.find.ensures ∙ ap option_copied c.in-Some.is in
+    let e : thread_of c.args.table.now.table c.args.tid ≡ Some c.in-Some.thread.now = sym c.find.ensures.found ∙ ap option_copied c.in-Some.is in
     found_again c.args.table.now.table c.args.tid c.in-Some.thread.now e
 
 pub returns-in-Some-clause-shows : goal.returns-in-Some-clause-shows
 returns-in-Some-clause-shows c w s =
-    let e : thread_of w.table c.args.tid ≡ Some c.in-Some.thread.now = ap (λ T. thread_of T c.args.tid) (sym s.table) ∙ (sym c.find.ensures ∙ ap option_copied c.in-Some.is) in
+    let e : thread_of w.table c.args.tid ≡ Some c.in-Some.thread.now = ap (λ T. thread_of T c.args.tid) (sym s.table) ∙ (sym c.find.ensures.found ∙ ap option_copied c.in-Some.is) in
     rw e (c.restart.ensures.shows w s)
