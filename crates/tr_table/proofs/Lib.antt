@@ -7,3 +7,4 @@ pub mod Orders
 pub mod Rosters
 pub mod SetActions
 pub mod Started
+pub mod FreeIds

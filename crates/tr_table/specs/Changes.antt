@@ -1,5 +1,5 @@
 -- What happens to the record of one thread or one group.
-use Rattle.std.specs.Prelude.{ℕ, List, map, filter, Bool, ◌&&◌, ◌==◌}
+use Rattle.std.specs.Prelude.{ℕ, List, [], map, filter, Bool, ◌&&◌, ◌==◌}
 use Rattle.tr_pending.specs.declared.instance.Instance.{Instance}
 use Rattle.tr_tracee.specs.declared.thread.Thread.{Thread}
 use Rattle.tr_tracee.specs.Ends.{dead, execed, execing, leaving, released, unmarked}
@@ -64,3 +64,7 @@ is_flushed ts g f q = flushes f q.instance.sig && owner_in ts q.target == g
 -- the ids of the groups, in table order
 abbrev pub tgids : Table → List ℕ
 tgids T = map (λ x. x.tgid) T.groups
+
+-- a table of these threads and groups, for what asks for their ids alone
+abbrev pub ids_table : List Thread → List Group → Table
+ids_table ts gs = record { threads = ts; groups = gs; waiting = []; accepted = 0; raised = 0; limit = 0; entries = 0 }

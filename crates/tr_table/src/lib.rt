@@ -2,6 +2,7 @@
 #![tactic(auto)]
 
 mod changes;
+mod fresh;
 mod good;
 mod groups;
 mod items;
