@@ -131,13 +131,16 @@ fn has_action(
     Ok(())
 }
 
+fn has_actions(rt: &impl Abort, table: &Table) -> Result<(), Fail> {
+    has_action(rt, table, 100, 10, Action::Catch)?;
+    has_action(rt, table, 100, 9, Action::Default)?;
+    has_action(rt, table, 100, 11, Action::Default)?;
+    has_action(rt, table, 200, 10, Action::Default)
+}
+
 #[test]
 fn actions_are_those_of_the_start(rt: HostRuntime) -> Result<(), Fail> {
-    let table = opened(rt.alloc())?;
-    has_action(&rt, &table, 100, 10, Action::Catch)?;
-    has_action(&rt, &table, 100, 9, Action::Default)?;
-    has_action(&rt, &table, 100, 11, Action::Default)?;
-    has_action(&rt, &table, 200, 10, Action::Default)
+    has_actions(&rt, &opened(rt.alloc())?)
 }
 
 /// That a thread blocks all signals but KILL (bit 8) and STOP (bit 18).
@@ -361,16 +364,19 @@ fn is_put(
     Ok(())
 }
 
+fn are_put(rt: &impl Abort, table: &mut Table) -> Result<(), Fail> {
+    is_put(rt, table, OWN, 10, Put::Queued)?;
+    is_put(rt, table, OWN, 10, Put::Merged)?;
+    is_put(rt, table, SHARED, 10, Put::Queued)?;
+    is_put(rt, table, OWN, 34, Put::Queued)?;
+    is_put(rt, table, OWN, 34, Put::Queued)?;
+    same(rt, &table.queue_len(OWN), &3);
+    Ok(())
+}
+
 #[test]
 fn standard_signals_merge(rt: HostRuntime) -> Result<(), Fail> {
-    let mut table = opened(rt.alloc())?;
-    is_put(&rt, &mut table, OWN, 10, Put::Queued)?;
-    is_put(&rt, &mut table, OWN, 10, Put::Merged)?;
-    is_put(&rt, &mut table, SHARED, 10, Put::Queued)?;
-    is_put(&rt, &mut table, OWN, 34, Put::Queued)?;
-    is_put(&rt, &mut table, OWN, 34, Put::Queued)?;
-    same(&rt, &table.queue_len(OWN), &3);
-    Ok(())
+    are_put(&rt, &mut opened(rt.alloc())?)
 }
 
 #[test]
@@ -429,40 +435,53 @@ fn a_log_comes_back_with_its_places(rt: HostRuntime) -> Result<(), Fail> {
     Ok(())
 }
 
+/// The table of `open`, made again where memory was refused the first time.
+fn opened_at_last(alloc: Global) -> Result<Table, Fail> {
+    let usr1 = signal(10)?;
+    match open(alloc, usr1) {
+        Ok(table) => Ok(table),
+        Err(_) => opened(alloc),
+    }
+}
+
+fn send_twenty(rt: &impl Abort, table: &mut Table) -> Result<(), Fail> {
+    for n in 0..20 {
+        if table.reserve(1).is_err() {
+            same(rt, &(table.accepted(), table.queued()), &(n, n as usize));
+        }
+        send(table, 34, OWN)?;
+    }
+    same(rt, &table.queue_len(OWN), &20);
+    Ok(())
+}
+
 /// The same whichever allocation fails: `rt try --test --fail-alloc 1..`.
 #[test]
 fn a_refused_place_leaves_what_waits(rt: HostRuntime) -> Result<(), Fail> {
-    let usr1 = signal(10)?;
-    let mut table = match open(rt.alloc(), usr1) {
-        Ok(table) => table,
-        Err(_) => opened(rt.alloc())?,
-    };
-    for n in 0..20 {
-        if table.reserve(1).is_err() {
-            same(&rt, &(table.accepted(), table.queued()), &(n, n as usize));
-        }
-        send(&mut table, 34, OWN)?;
+    send_twenty(&rt, &mut opened_at_last(rt.alloc())?)
+}
+
+/// Adds a thread, again where memory was refused the first time.
+fn add(rt: &impl Abort, table: &mut Table, child: &Thread) -> Result<(), Fail> {
+    if table.add(child).is_err() {
+        assert!(rt; table.find(child.id).is_none());
+        table.add(child)?;
     }
-    same(&rt, &table.queue_len(OWN), &20);
+    Ok(())
+}
+
+fn add_twenty(rt: &impl Abort, table: &mut Table) -> Result<(), Fail> {
+    let mut child = *thread(table, 101)?;
+    for id in 102..122 {
+        child.id = id;
+        add(rt, table, &child)?;
+    }
+    same(rt, &(table.count(100), table.thread_count()), &(22, 23));
     Ok(())
 }
 
 /// The same whichever allocation fails.
 #[test]
 fn a_refused_thread_leaves_the_others(rt: HostRuntime) -> Result<(), Fail> {
-    let usr1 = signal(10)?;
-    let mut table = match open(rt.alloc(), usr1) {
-        Ok(table) => table,
-        Err(_) => opened(rt.alloc())?,
-    };
-    let mut child = *thread(&table, 101)?;
-    for id in 102..122 {
-        child.id = id;
-        if table.add(&child).is_err() {
-            assert!(rt; table.find(id).is_none());
-            table.add(&child)?;
-        }
-    }
-    same(&rt, &(table.count(100), table.thread_count()), &(22, 23));
-    Ok(())
+    add_twenty(&rt, &mut opened_at_last(rt.alloc())?)
 }
