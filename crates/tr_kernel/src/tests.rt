@@ -1,8 +1,9 @@
 use super::*;
+use std::fmt::Debug;
 use std::process::Abort;
 use std::test::Fail;
 use tr_group::Action;
-use tr_model::{Event, Fate, Refusal, Reply, Target};
+use tr_model::{Event, Fate, Refusal, Reply, Target, Totals};
 use tr_sigset::{SigSet, Signal};
 use tr_table::{GroupStart, Items, Start};
 
@@ -45,18 +46,52 @@ fn block(kernel: &mut Kernel) -> Result<Reply, Refusal> {
     kernel.step(10, Event::Mask { tid: 10, set })
 }
 
+/// That a value is the one that is wanted.
+fn same<T: PartialEq + Debug>(rt: &impl Abort, value: &T, want: &T) {
+    assert_eq!(rt; *value, *want);
+}
+
+/// That the one thread blocks USR1 from now on.
+fn blocks(rt: &impl Abort, kernel: &mut Kernel) {
+    assert_eq!(rt; block(kernel), Ok(Reply::Done));
+}
+
+/// That a call is answered so.
+fn answers(
+    rt: &impl Abort,
+    kernel: &mut Kernel,
+    actor: u32,
+    event: &Event,
+    want: &Result<Reply, Refusal>,
+) {
+    assert_eq!(rt; kernel.step(actor, *event), *want);
+}
+
+fn sent(n: u64, fate: Fate) -> Result<Reply, Refusal> {
+    Ok(Reply::Sent { n, fate })
+}
+
+fn has_fate(rt: &impl Abort, kernel: &Kernel, number: u64, want: Option<Fate>) {
+    assert_eq!(rt; kernel.fate(number), want);
+}
+
 #[test]
 fn second_pending_signal_merges(rt: HostRuntime) -> Result<(), Fail> {
     let mut kernel = kernel(&rt, 100)?;
-    assert_eq!(rt; block(&mut kernel), Ok(Reply::Done));
-    let fate = Fate::Pending;
-    assert_eq!(rt; kernel.step(900, KILL), Ok(Reply::Sent { n: 1, fate }));
-    let fate = Fate::Merged;
-    assert_eq!(rt; kernel.step(900, KILL), Ok(Reply::Sent { n: 2, fate }));
-    assert_eq!(rt; kernel.fate(1), Some(Fate::Pending));
-    assert_eq!(rt; kernel.fate(2), Some(Fate::Merged));
-    assert_eq!(rt; kernel.fate(3), None);
+    blocks(&rt, &mut kernel);
+    answers(&rt, &mut kernel, 900, &KILL, &sent(1, Fate::Pending));
+    answers(&rt, &mut kernel, 900, &KILL, &sent(2, Fate::Merged));
+    has_fate(&rt, &kernel, 1, Some(Fate::Pending));
+    has_fate(&rt, &kernel, 2, Some(Fate::Merged));
+    has_fate(&rt, &kernel, 3, None);
     Ok(())
+}
+
+fn has_totals(rt: &impl Abort, totals: &Totals) {
+    same(rt, &totals.accepted, &2);
+    same(rt, &totals.pending, &1);
+    same(rt, &totals.merged, &1);
+    same(rt, &totals.delivered, &0);
 }
 
 #[test]
@@ -65,24 +100,25 @@ fn totals_of_two_sends(rt: HostRuntime) -> Result<(), Fail> {
     let _blocked = block(&mut kernel);
     let _first = kernel.step(900, KILL);
     let _second = kernel.step(900, KILL);
-    let totals = kernel.totals();
-    assert_eq!(rt; totals.accepted, 2);
-    assert_eq!(rt; totals.pending, 1);
-    assert_eq!(rt; totals.merged, 1);
-    assert_eq!(rt; totals.delivered, 0);
+    has_totals(&rt, &kernel.totals());
     Ok(())
 }
+
+const TAKE: Event = Event::Take { tid: 10 };
 
 #[test]
 fn taken_signal_is_delivered(rt: HostRuntime) -> Result<(), Fail> {
     let mut kernel = kernel(&rt, 100)?;
     let _sent = kernel.step(900, KILL);
-    assert!(rt; kernel.step(10, Event::Take { tid: 10 }).is_ok());
-    assert_eq!(rt; kernel.fate(1), Some(Fate::Delivered));
-    let quiet = kernel.step(10, Event::Take { tid: 10 });
-    assert_eq!(rt; quiet, Ok(Reply::Nothing));
-    assert_eq!(rt; kernel.journal().len(), 2);
+    assert!(rt; kernel.step(10, TAKE).is_ok());
+    has_fate(&rt, &kernel, 1, Some(Fate::Delivered));
+    answers(&rt, &mut kernel, 10, &TAKE, &Ok(Reply::Nothing));
+    same(&rt, &kernel.journal().len(), &2);
     Ok(())
+}
+
+fn has_queue(rt: &impl Abort, kernel: &Kernel, target: Target, want: usize) {
+    assert_eq!(rt; kernel.table().queue_len(target), want);
 }
 
 #[test]
@@ -94,12 +130,19 @@ fn signal_to_a_thread_waits_in_its_own_queue(rt: HostRuntime) -> Result<(), Fail
         tid: 10,
         sig: 10,
     };
-    let fate = Fate::Pending;
-    assert_eq!(rt; kernel.step(900, to_thread), Ok(Reply::Sent { n: 1, fate }));
-    assert_eq!(rt; kernel.step(900, KILL), Ok(Reply::Sent { n: 2, fate }));
-    assert_eq!(rt; kernel.table().queue_len(Target::Thread(10)), 1);
-    assert_eq!(rt; kernel.table().queue_len(Target::Group(10)), 1);
+    answers(&rt, &mut kernel, 900, &to_thread, &sent(1, Fate::Pending));
+    answers(&rt, &mut kernel, 900, &KILL, &sent(2, Fate::Pending));
+    has_queue(&rt, &kernel, Target::Thread(10), 1);
+    has_queue(&rt, &kernel, Target::Group(10), 1);
     Ok(())
+}
+
+/// The value that a take brings.
+fn value_of(reply: &Result<Reply, Refusal>) -> Option<i32> {
+    match reply {
+        Ok(Reply::Took { inst, .. }) => Some(inst.info.value),
+        _ => None,
+    }
 }
 
 #[test]
@@ -111,22 +154,19 @@ fn queued_signal_brings_its_value(rt: HostRuntime) -> Result<(), Fail> {
         value: -7,
     };
     let _sent = kernel.step(900, queued);
-    let value = match kernel.step(10, Event::Take { tid: 10 }) {
-        Ok(Reply::Took { inst, .. }) => Some(inst.info.value),
-        _ => None,
-    };
-    assert_eq!(rt; value, Some(-7));
+    same(&rt, &value_of(&kernel.step(10, TAKE)), &Some(-7));
     Ok(())
 }
 
 #[test]
 fn pausing_thread_does_nothing_else(rt: HostRuntime) -> Result<(), Fail> {
     let mut kernel = kernel(&rt, 100)?;
-    assert_eq!(rt; kernel.step(10, Event::Pause { tid: 10 }), Ok(Reply::Done));
-    assert_eq!(rt; block(&mut kernel), Err(Refusal::NotRunning));
+    let pause = Event::Pause { tid: 10 };
+    answers(&rt, &mut kernel, 10, &pause, &Ok(Reply::Done));
+    same(&rt, &block(&mut kernel), &Err(Refusal::NotRunning));
     let _sent = kernel.step(900, KILL);
-    let _taken = kernel.step(10, Event::Take { tid: 10 });
-    assert_eq!(rt; block(&mut kernel), Ok(Reply::Done));
+    let _taken = kernel.step(10, TAKE);
+    blocks(&rt, &mut kernel);
     Ok(())
 }
 
@@ -134,77 +174,95 @@ fn pausing_thread_does_nothing_else(rt: HostRuntime) -> Result<(), Fail> {
 fn full_journal_takes_no_entry(rt: HostRuntime) -> Result<(), Fail> {
     let mut kernel = kernel(&rt, 1)?;
     let probe = Event::Kill { tgid: 10, sig: 0 };
-    let _first = kernel.step(900, KILL);
-    assert_eq!(rt; kernel.step(900, KILL), Err(Refusal::JournalFull));
-    assert_eq!(rt; kernel.step(900, probe), Ok(Reply::Exists));
     let nobody = Event::Kill { tgid: 11, sig: 10 };
-    assert_eq!(rt; kernel.step(900, nobody), Err(Refusal::Srch));
-    assert_eq!(rt; kernel.journal().len(), 1);
+    let _first = kernel.step(900, KILL);
+    answers(&rt, &mut kernel, 900, &KILL, &Err(Refusal::JournalFull));
+    answers(&rt, &mut kernel, 900, &probe, &Ok(Reply::Exists));
+    answers(&rt, &mut kernel, 900, &nobody, &Err(Refusal::Srch));
+    same(&rt, &kernel.journal().len(), &1);
     Ok(())
 }
 
 #[test]
 fn unserved_event_is_outside_the_model(rt: HostRuntime) -> Result<(), Fail> {
     let mut kernel = kernel(&rt, 100)?;
-    let attach = kernel.step(900, Event::Attach { tid: 10 });
-    assert_eq!(rt; attach, Err(Refusal::Unmodelled));
+    let attach = Event::Attach { tid: 10 };
+    answers(&rt, &mut kernel, 900, &attach, &Err(Refusal::Unmodelled));
     Ok(())
+}
+
+/// A start whose one leader is 1.
+fn bad_start(rt: &HostRuntime) -> Result<Start, Fail> {
+    let group = GroupStart {
+        tgid: 1,
+        name: item(rt, b'd')?,
+        actions: Items::new(rt.alloc()),
+        threads: item(rt, (1, SigSet::empty()))?,
+    };
+    Ok(Start {
+        groups: item(rt, group)?,
+        limit: 4,
+        entries: 100,
+    })
 }
 
 #[test]
 fn start_of_two_leaders_is_bad(rt: HostRuntime) -> Result<(), Fail> {
-    let mut bad = start(&rt, 100)?;
-    bad.groups = Items::new(rt.alloc());
-    bad.groups.push(GroupStart {
-        tgid: 1,
-        name: item(&rt, b'd')?,
-        actions: Items::new(rt.alloc()),
-        threads: item(&rt, (1, SigSet::empty()))?,
-    })?;
-    let fault = match Kernel::new(rt.alloc(), bad) {
-        Ok(_) => None,
-        Err(fault) => Some(fault),
-    };
-    assert_eq!(rt; fault, Some(StartFault::BadStart));
+    let fault = Kernel::new(rt.alloc(), bad_start(&rt)?).err();
+    same(&rt, &fault, &Some(StartFault::BadStart));
     Ok(())
+}
+
+/// What can be read of a kernel.
+#[derive(Clone, Copy, Debug, PartialEq)]
+struct Sums {
+    entries: usize,
+    totals: Totals,
+    threads: usize,
+    queued: usize,
+}
+
+fn sums_of(kernel: &Kernel) -> Sums {
+    Sums {
+        entries: kernel.journal().len(),
+        totals: kernel.totals(),
+        threads: kernel.table().thread_count(),
+        queued: kernel.table().queued(),
+    }
 }
 
 /// A call that is refused memory changes nothing that can be read, and made again it answers as if it had been the
 /// first. Without a refusal it makes its entry. `rt try --test --fail-alloc N` refuses the allocation of number N.
-fn make(rt: &impl Abort, kernel: &mut Kernel, actor: u32, event: Event) -> Result<Reply, Fail> {
-    let entries = kernel.journal().len();
-    let totals = kernel.totals();
-    let threads = kernel.table().thread_count();
-    let queued = kernel.table().queued();
-    match kernel.step(actor, event) {
+fn make(rt: &impl Abort, kernel: &mut Kernel, actor: u32, event: &Event) -> Result<Reply, Fail> {
+    let sums = sums_of(kernel);
+    let mut answer = kernel.step(actor, *event);
+    if let Err(Refusal::NoMemory) = answer {
+        same(rt, &sums_of(kernel), &sums);
+        answer = kernel.step(actor, *event);
+    }
+    match answer {
         Ok(reply) => Ok(reply),
-        Err(Refusal::NoMemory) => {
-            assert_eq!(rt; kernel.journal().len(), entries);
-            assert_eq!(rt; kernel.totals(), totals);
-            assert_eq!(rt; kernel.table().thread_count(), threads);
-            assert_eq!(rt; kernel.table().queued(), queued);
-            match kernel.step(actor, event) {
-                Ok(reply) => Ok(reply),
-                Err(_) => Err(Fail::from("an entry, when called again")),
-            }
-        }
         Err(_) => Err(Fail::from("an entry")),
     }
+}
+
+/// That a USR1 is made an entry, and sent so.
+fn sends(rt: &impl Abort, kernel: &mut Kernel, n: u64, fate: Fate) -> Result<(), Fail> {
+    assert_eq!(rt; make(rt, kernel, 900, &KILL)?, Reply::Sent { n, fate });
+    Ok(())
+}
+
+fn sends_and_takes(rt: &impl Abort, kernel: &mut Kernel) -> Result<(), Fail> {
+    sends(rt, kernel, 1, Fate::Pending)?;
+    sends(rt, kernel, 2, Fate::Merged)?;
+    let _taken = make(rt, kernel, 10, &TAKE)?;
+    sends(rt, kernel, 3, Fate::Pending)?;
+    same(rt, &kernel.journal().len(), &4);
+    Ok(())
 }
 
 #[test]
 fn refused_memory_changes_nothing(rt: HostRuntime) -> Result<(), Fail> {
     let mut kernel = kernel(&rt, 100)?;
-    let first = make(&rt, &mut kernel, 900, KILL)?;
-    let fate = Fate::Pending;
-    assert_eq!(rt; first, Reply::Sent { n: 1, fate });
-    let second = make(&rt, &mut kernel, 900, KILL)?;
-    let fate = Fate::Merged;
-    assert_eq!(rt; second, Reply::Sent { n: 2, fate });
-    let _taken = make(&rt, &mut kernel, 10, Event::Take { tid: 10 })?;
-    let third = make(&rt, &mut kernel, 900, KILL)?;
-    let fate = Fate::Pending;
-    assert_eq!(rt; third, Reply::Sent { n: 3, fate });
-    assert_eq!(rt; kernel.journal().len(), 4);
-    Ok(())
+    sends_and_takes(&rt, &mut kernel)
 }

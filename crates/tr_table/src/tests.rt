@@ -1,5 +1,7 @@
 use super::*;
 use std::alloc::{AllocError, Global};
+use std::fmt::Debug;
+use std::process::Abort;
 use std::test::Fail;
 use tr_group::Action;
 use tr_model::{Ending, Fate, Target};
@@ -66,13 +68,18 @@ fn opened(alloc: Global) -> Result<Table, Fail> {
     Ok(open(alloc, signal(10)?)?)
 }
 
+/// That a value is the one that is wanted.
+fn same<T: PartialEq + Debug>(rt: &impl Abort, value: &T, want: &T) {
+    assert_eq!(rt; *value, *want);
+}
+
 #[test]
 fn a_table_opens_with_the_numbers_of_its_start(rt: HostRuntime) -> Result<(), Fail> {
     let table = opened(rt.alloc())?;
-    assert_eq!(rt; (table.limit(), table.entries()), (8, 9));
-    assert_eq!(rt; (table.accepted(), table.raised()), (0, 0));
-    assert_eq!(rt; (table.group_count(), table.thread_count()), (2, 3));
-    assert_eq!(rt; table.owner(OWN), 100);
+    same(&rt, &(table.limit(), table.entries()), &(8, 9));
+    same(&rt, &(table.accepted(), table.raised()), &(0, 0));
+    same(&rt, &(table.group_count(), table.thread_count()), &(2, 3));
+    same(&rt, &table.owner(OWN), &100);
     Ok(())
 }
 
@@ -86,8 +93,8 @@ fn name_of(table: &Table, tgid: u32) -> Result<([u8; 15], u8), Fail> {
 fn a_name_of_fifteen_bytes_stands_whole(rt: HostRuntime) -> Result<(), Fail> {
     let table = opened(rt.alloc())?;
     let (bytes, len) = name_of(&table, 100)?;
-    assert_eq!(rt; bytes.as_slice(), b"fifteen letters".as_slice());
-    assert_eq!(rt; len, 15);
+    same(&rt, &bytes.as_slice(), &b"fifteen letters".as_slice());
+    same(&rt, &len, &15);
     Ok(())
 }
 
@@ -95,40 +102,53 @@ fn a_name_of_fifteen_bytes_stands_whole(rt: HostRuntime) -> Result<(), Fail> {
 fn a_short_name_is_padded(rt: HostRuntime) -> Result<(), Fail> {
     let table = opened(rt.alloc())?;
     let (bytes, len) = name_of(&table, 200)?;
-    assert_eq!(rt;
-        bytes.as_slice(),
-        b"sh\0\0\0\0\0\0\0\0\0\0\0\0\0".as_slice()
+    same(
+        &rt,
+        &bytes.as_slice(),
+        &b"sh\0\0\0\0\0\0\0\0\0\0\0\0\0".as_slice(),
     );
-    assert_eq!(rt; len, 2);
+    same(&rt, &len, &2);
     Ok(())
+}
+
+fn has_action(
+    rt: &impl Abort,
+    table: &Table,
+    tgid: u32,
+    number: u8,
+    want: Action,
+) -> Result<(), Fail> {
+    assert_eq!(rt;
+        table.action_of(tgid, signal(number)?),
+        want,
+        "at {tgid} {number}"
+    );
+    Ok(())
+}
+
+fn has_actions(rt: &impl Abort, table: &Table) -> Result<(), Fail> {
+    has_action(rt, table, 100, 10, Action::Catch)?;
+    has_action(rt, table, 100, 9, Action::Default)?;
+    has_action(rt, table, 100, 11, Action::Default)?;
+    has_action(rt, table, 200, 10, Action::Default)
 }
 
 #[test]
 fn actions_are_those_of_the_start(rt: HostRuntime) -> Result<(), Fail> {
-    let table = opened(rt.alloc())?;
-    let actions = [
-        (100, 10, Action::Catch),
-        (100, 9, Action::Default),
-        (100, 11, Action::Default),
-        (200, 10, Action::Default),
-    ];
-    for (tgid, number, want) in actions {
-        assert_eq!(rt;
-            table.action_of(tgid, signal(number)?),
-            want,
-            "at {tgid} {number}"
-        );
-    }
+    has_actions(&rt, &opened(rt.alloc())?)
+}
+
+/// That a thread blocks all signals but KILL (bit 8) and STOP (bit 18).
+fn blocks_all(rt: &impl Abort, table: &Table, id: u32) -> Result<(), Fail> {
+    let thread = table.find(id).ok_or("no such thread")?;
+    assert_eq!(rt; thread.mask.bits(), 0xffff_ffff_fffb_feff);
     Ok(())
 }
 
-/// All signals but KILL (bit 8) and STOP (bit 18).
 #[test]
 fn kill_and_stop_stay_unblocked(rt: HostRuntime) -> Result<(), Fail> {
     let table = opened(rt.alloc())?;
-    let blocker = table.find(101).ok_or("no thread 101")?;
-    assert_eq!(rt; blocker.mask.bits(), 0xffff_ffff_fffb_feff);
-    Ok(())
+    blocks_all(&rt, &table, 101)
 }
 
 fn send(table: &mut Table, number: u8, target: Target) -> Result<(), Fail> {
@@ -166,8 +186,12 @@ fn best(table: &Table, target: Target, blocked: SigSet) -> (u64, u8, u32) {
 #[test]
 fn signals_wait(rt: HostRuntime) -> Result<(), Fail> {
     let table = with_four(rt.alloc())?;
-    assert_eq!(rt; (table.accepted(), table.queued()), (4, 4));
-    assert_eq!(rt; (table.queue_len(SHARED), table.queue_len(OWN)), (3, 1));
+    same(&rt, &(table.accepted(), table.queued()), &(4, 4));
+    same(
+        &rt,
+        &(table.queue_len(SHARED), table.queue_len(OWN)),
+        &(3, 1),
+    );
     Ok(())
 }
 
@@ -176,10 +200,10 @@ fn the_best_is_the_least_that_is_open(rt: HostRuntime) -> Result<(), Fail> {
     let table = with_four(rt.alloc())?;
     let none = SigSet::empty();
     let usr1 = none.with(signal(10)?);
-    assert_eq!(rt; best(&table, SHARED, none), (3, 10, 1));
-    assert_eq!(rt; best(&table, SHARED, usr1), (1, 34, 1));
-    assert_eq!(rt; best(&table, OWN, none), (4, 34, 1));
-    assert_eq!(rt; best(&table, Target::Thread(100), none), (0, 0, 0));
+    same(&rt, &best(&table, SHARED, none), &(3, 10, 1));
+    same(&rt, &best(&table, SHARED, usr1), &(1, 34, 1));
+    same(&rt, &best(&table, OWN, none), &(4, 34, 1));
+    same(&rt, &best(&table, Target::Thread(100), none), &(0, 0, 0));
     Ok(())
 }
 
@@ -196,9 +220,9 @@ fn a_delivered_instance_waits_no_more(rt: HostRuntime) -> Result<(), Fail> {
     let mut table = with_four(rt.alloc())?;
     let mut ended = Vec::with_capacity(rt.alloc(), table.queued())?;
     table.deliver(1, &mut ended);
-    assert_eq!(rt; one_end(ended.as_slice())?, (1, true));
+    same(&rt, &one_end(ended.as_slice())?, &(1, true));
     let usr1 = SigSet::empty().with(signal(10)?);
-    assert_eq!(rt; best(&table, SHARED, usr1), (2, 34, 1));
+    same(&rt, &best(&table, SHARED, usr1), &(2, 34, 1));
     Ok(())
 }
 
@@ -216,7 +240,7 @@ fn a_flush_is_of_all_queues_of_the_group(rt: HostRuntime) -> Result<(), Fail> {
     table.flush(100, &real_time, &mut ended);
     assert!(rt; are_flushed(ended.as_slice(), &[1, 2, 4]));
     table.pull(3);
-    assert_eq!(rt; (table.accepted(), table.queued()), (4, 0));
+    same(&rt, &(table.accepted(), table.queued()), &(4, 0));
     Ok(())
 }
 
@@ -241,9 +265,9 @@ fn an_added_thread_comes_last(rt: HostRuntime) -> Result<(), Fail> {
     let mut child = *thread(&table, 101)?;
     child.id = 102;
     add_new(&mut table, &child)?;
-    assert_eq!(rt; (table.count(100), table.thread_count()), (3, 4));
+    same(&rt, &(table.count(100), table.thread_count()), &(3, 4));
     if table.count(100) > 2 {
-        assert_eq!(rt; table.at(100, 2).id, 102);
+        same(&rt, &table.at(100, 2).id, &102);
     }
     Ok(())
 }
@@ -253,9 +277,9 @@ fn a_removed_thread_is_gone(rt: HostRuntime) -> Result<(), Fail> {
     let mut table = opened(rt.alloc())?;
     assert!(rt; table.remove(101));
     assert!(rt; !table.remove(101));
-    assert_eq!(rt; table.thread_count(), 2);
+    same(&rt, &table.thread_count(), &2);
     assert!(rt; table.find(101).is_none());
-    assert_eq!(rt; table.owner(OWN), 0);
+    same(&rt, &table.owner(OWN), &0);
     Ok(())
 }
 
@@ -271,10 +295,10 @@ fn kill_thread(table: &mut Table, id: u32) -> Result<(), Fail> {
 fn the_dead_alone_are_removed(rt: HostRuntime) -> Result<(), Fail> {
     let mut table = opened(rt.alloc())?;
     table.remove_dead(101);
-    assert_eq!(rt; table.thread_count(), 3);
+    same(&rt, &table.thread_count(), &3);
     kill_thread(&mut table, 101)?;
     table.remove_dead(101);
-    assert_eq!(rt; table.thread_count(), 2);
+    same(&rt, &table.thread_count(), &2);
     assert!(rt; table.find(101).is_none());
     Ok(())
 }
@@ -283,10 +307,10 @@ fn the_dead_alone_are_removed(rt: HostRuntime) -> Result<(), Fail> {
 fn a_group_goes_with_its_last_thread(rt: HostRuntime) -> Result<(), Fail> {
     let mut table = opened(rt.alloc())?;
     table.remove_group(200);
-    assert_eq!(rt; table.group_count(), 2);
+    same(&rt, &table.group_count(), &2);
     assert!(rt; table.remove(200));
     table.remove_group(200);
-    assert_eq!(rt; table.group_count(), 1);
+    same(&rt, &table.group_count(), &1);
     assert!(rt; table.group(200).is_none());
     Ok(())
 }
@@ -297,12 +321,12 @@ fn a_renamed_thread_brings_its_queue(rt: HostRuntime) -> Result<(), Fail> {
     kill_thread(&mut table, 100)?;
     table.rename(101);
     assert!(rt; table.find(101).is_none());
-    assert_eq!(rt; table.count(100), 1);
-    let leader = thread(&table, 100)?;
-    assert_eq!(rt; leader.mask.bits(), 0xffff_ffff_fffb_feff);
-    assert_eq!(rt;
-        best(&table, Target::Thread(100), SigSet::empty()),
-        (4, 34, 1)
+    same(&rt, &table.count(100), &1);
+    blocks_all(&rt, &table, 100)?;
+    same(
+        &rt,
+        &best(&table, Target::Thread(100), SigSet::empty()),
+        &(4, 34, 1),
     );
     Ok(())
 }
@@ -334,26 +358,40 @@ fn put(table: &mut Table, target: Target, number: u8) -> Result<Put, Fail> {
     Ok(table.put_instance(target, &instance))
 }
 
+fn is_put(
+    rt: &impl Abort,
+    table: &mut Table,
+    target: Target,
+    number: u8,
+    want: Put,
+) -> Result<(), Fail> {
+    assert_eq!(rt; put(table, target, number)?, want);
+    Ok(())
+}
+
+fn are_put(rt: &impl Abort, table: &mut Table) -> Result<(), Fail> {
+    is_put(rt, table, OWN, 10, Put::Queued)?;
+    is_put(rt, table, OWN, 10, Put::Merged)?;
+    is_put(rt, table, SHARED, 10, Put::Queued)?;
+    is_put(rt, table, OWN, 34, Put::Queued)?;
+    is_put(rt, table, OWN, 34, Put::Queued)?;
+    same(rt, &table.queue_len(OWN), &3);
+    Ok(())
+}
+
 #[test]
 fn standard_signals_merge(rt: HostRuntime) -> Result<(), Fail> {
-    let mut table = opened(rt.alloc())?;
-    assert_eq!(rt; put(&mut table, OWN, 10)?, Put::Queued);
-    assert_eq!(rt; put(&mut table, OWN, 10)?, Put::Merged);
-    assert_eq!(rt; put(&mut table, SHARED, 10)?, Put::Queued);
-    assert_eq!(rt; put(&mut table, OWN, 34)?, Put::Queued);
-    assert_eq!(rt; put(&mut table, OWN, 34)?, Put::Queued);
-    assert_eq!(rt; table.queue_len(OWN), 3);
-    Ok(())
+    are_put(&rt, &mut opened(rt.alloc())?)
 }
 
 #[test]
 fn the_first_of_a_signal_is_taken(rt: HostRuntime) -> Result<(), Fail> {
     let mut table = with_four(rt.alloc())?;
     let real_time = signal(34)?;
-    assert_eq!(rt; told(table.take_sig(SHARED, real_time)), (1, 34, 1));
-    assert_eq!(rt; told(table.take_sig(OWN, real_time)), (4, 34, 1));
-    assert_eq!(rt; told(table.take_sig(OWN, real_time)), (0, 0, 0));
-    assert_eq!(rt; table.queued(), 2);
+    same(&rt, &told(table.take_sig(SHARED, real_time)), &(1, 34, 1));
+    same(&rt, &told(table.take_sig(OWN, real_time)), &(4, 34, 1));
+    same(&rt, &told(table.take_sig(OWN, real_time)), &(0, 0, 0));
+    same(&rt, &table.queued(), &2);
     Ok(())
 }
 
@@ -362,9 +400,13 @@ fn a_set_is_flushed_from_one_queue(rt: HostRuntime) -> Result<(), Fail> {
     let mut table = with_four(rt.alloc())?;
     let mut gone = Vec::with_capacity(rt.alloc(), table.queued())?;
     let real_time = SigSet::empty().with(signal(34)?);
-    assert_eq!(rt; table.flush_set(SHARED, real_time, &mut gone), 2);
-    assert_eq!(rt; gone.as_slice(), [1, 2].as_slice());
-    assert_eq!(rt; (table.queue_len(SHARED), table.queue_len(OWN)), (1, 1));
+    same(&rt, &table.flush_set(SHARED, real_time, &mut gone), &2);
+    same(&rt, &gone.as_slice(), &[1, 2].as_slice());
+    same(
+        &rt,
+        &(table.queue_len(SHARED), table.queue_len(OWN)),
+        &(1, 1),
+    );
     Ok(())
 }
 
@@ -374,7 +416,11 @@ fn a_queue_is_flushed_whole(rt: HostRuntime) -> Result<(), Fail> {
     let mut ended = Vec::with_capacity(rt.alloc(), table.queued())?;
     table.flush_queue(SHARED, &mut ended);
     assert!(rt; are_flushed(ended.as_slice(), &[1, 2, 3]));
-    assert_eq!(rt; (table.queue_len(SHARED), table.queue_len(OWN)), (0, 1));
+    same(
+        &rt,
+        &(table.queue_len(SHARED), table.queue_len(OWN)),
+        &(0, 1),
+    );
     Ok(())
 }
 
@@ -422,40 +468,53 @@ fn a_log_comes_back_with_its_places(rt: HostRuntime) -> Result<(), Fail> {
     Ok(())
 }
 
+/// The table of `open`, made again where memory was refused the first time.
+fn opened_at_last(alloc: Global) -> Result<Table, Fail> {
+    let usr1 = signal(10)?;
+    match open(alloc, usr1) {
+        Ok(table) => Ok(table),
+        Err(_) => opened(alloc),
+    }
+}
+
+fn send_twenty(rt: &impl Abort, table: &mut Table) -> Result<(), Fail> {
+    for n in 0..20 {
+        if table.reserve(1).is_err() {
+            same(rt, &(table.accepted(), table.queued()), &(n, n as usize));
+        }
+        send(table, 34, OWN)?;
+    }
+    same(rt, &table.queue_len(OWN), &20);
+    Ok(())
+}
+
 /// The same whichever allocation fails: `rt try --test --fail-alloc 1..`.
 #[test]
 fn a_refused_place_leaves_what_waits(rt: HostRuntime) -> Result<(), Fail> {
-    let usr1 = signal(10)?;
-    let mut table = match open(rt.alloc(), usr1) {
-        Ok(table) => table,
-        Err(_) => opened(rt.alloc())?,
-    };
-    for n in 0..20 {
-        if table.reserve(1).is_err() {
-            assert_eq!(rt; (table.accepted(), table.queued()), (n, n as usize));
-        }
-        send(&mut table, 34, OWN)?;
+    send_twenty(&rt, &mut opened_at_last(rt.alloc())?)
+}
+
+/// Adds a thread, again where memory was refused the first time.
+fn add(rt: &impl Abort, table: &mut Table, child: &Thread) -> Result<(), Fail> {
+    if table.add(child).is_err() {
+        assert!(rt; table.find(child.id).is_none());
+        table.add(child)?;
     }
-    assert_eq!(rt; table.queue_len(OWN), 20);
+    Ok(())
+}
+
+fn add_twenty(rt: &impl Abort, table: &mut Table) -> Result<(), Fail> {
+    let mut child = *thread(table, 101)?;
+    for id in 102..122 {
+        child.id = id;
+        add(rt, table, &child)?;
+    }
+    same(rt, &(table.count(100), table.thread_count()), &(22, 23));
     Ok(())
 }
 
 /// The same whichever allocation fails.
 #[test]
 fn a_refused_thread_leaves_the_others(rt: HostRuntime) -> Result<(), Fail> {
-    let usr1 = signal(10)?;
-    let mut table = match open(rt.alloc(), usr1) {
-        Ok(table) => table,
-        Err(_) => opened(rt.alloc())?,
-    };
-    let mut child = *thread(&table, 101)?;
-    for id in 102..122 {
-        child.id = id;
-        if add_new(&mut table, &child).is_err() {
-            assert!(rt; table.find(id).is_none());
-            add_new(&mut table, &child)?;
-        }
-    }
-    assert_eq!(rt; (table.count(100), table.thread_count()), (22, 23));
-    Ok(())
+    add_twenty(&rt, &mut opened_at_last(rt.alloc())?)
 }

@@ -1,8 +1,15 @@
 use super::*;
+use std::fmt::Debug;
+use std::process::Abort;
 use std::test::Fail;
 use tr_pending::{Info, Instance};
 use tr_sigset::{SigSet, Signal};
 use tr_wait::{Status, StopSig};
+
+/// That a value is the one that is wanted; `of` is told where it isn't.
+fn same<T: PartialEq + Debug, O: Debug>(rt: &impl Abort, value: &T, want: &T, of: &O) {
+    assert_eq!(rt; *value, *want, "of {of:?}");
+}
 
 fn signal(number: u8) -> Result<Signal, Fail> {
     Ok(Signal::new(number).ok_or("not the number of a signal")?)
@@ -118,6 +125,57 @@ fn exit_stop(word: u32, end: &End) -> Case {
     case
 }
 
+/// A thread that takes part in a group-stop, and has a trap mark and a note mark, enters the stop.
+fn entered(rt: &impl Abort, case: &Case) -> Thread {
+    let mut entered = seized(&Life::Free, Options::NONE);
+    entered.interrupt();
+    assert!(rt; entered.trap_mark);
+    entered.note_mark = true;
+    entered.joined = true;
+    entered.enter(&case.stop, 5);
+    entered
+}
+
+fn is_reported(rt: &impl Abort, case: &Case, entered: &Thread) {
+    let report = Report {
+        number: 5,
+        status: case.status,
+    };
+    same(rt, &entered.report, &Some(report), &case.stop);
+    same(rt, &entered.life.held(), &case.held, &case.stop);
+    same(rt, &entered.note_mark, &!case.stop.is_event(), &case.stop);
+    assert!(rt; !entered.trap_mark && entered.life.is_in_stop());
+}
+
+fn stays_when_detached(rt: &impl Abort, case: &Case, entered: &Thread) {
+    let mut detached = *entered;
+    detached.detach(true);
+    same(rt, &detached, entered, &case.stop);
+}
+
+fn is_listened_to(rt: &impl Abort, case: &Case, entered: &Thread) {
+    let mut listening = *entered;
+    listening.listen();
+    same(rt, &listening.life, &case.listening, &case.stop);
+    assert!(rt; listening.joined && listening.report.is_none());
+}
+
+fn is_restarted(rt: &impl Abort, case: &Case, entered: &Thread) {
+    let mut restarted = *entered;
+    same(rt, &restarted.restart(), &case.held, &case.stop);
+    same(rt, &restarted.life, &case.restarted, &case.stop);
+    same(rt, &restarted.joined, &case.takes_part, &case.stop);
+    assert!(rt; restarted.report.is_none());
+}
+
+fn is_so(rt: &impl Abort, case: &Case) {
+    let entered = entered(rt, case);
+    is_reported(rt, case, &entered);
+    stays_when_detached(rt, case, &entered);
+    is_listened_to(rt, case, &entered);
+    is_restarted(rt, case, &entered);
+}
+
 #[test]
 fn stops_and_restarts(rt: HostRuntime) -> Result<(), Fail> {
     let cases = [
@@ -130,40 +188,7 @@ fn stops_and_restarts(rt: HostRuntime) -> Result<(), Fail> {
         exit_stop(0xf, &End::Killed(signal(15)?)),
     ];
     for case in &cases {
-        let mut entered = seized(&Life::Free, Options::NONE);
-        entered.interrupt();
-        assert!(rt; entered.trap_mark);
-        entered.note_mark = true;
-        entered.joined = true;
-        entered.enter(&case.stop, 5);
-        let report = Report {
-            number: 5,
-            status: case.status,
-        };
-        assert_eq!(rt; entered.report, Some(report), "at {:?}", case.stop);
-        assert_eq!(rt; entered.life.held(), case.held, "at {:?}", case.stop);
-        assert_eq!(rt;
-            entered.note_mark,
-            !case.stop.is_event(),
-            "at {:?}",
-            case.stop
-        );
-        assert!(rt; !entered.trap_mark && entered.life.is_in_stop());
-
-        let mut detached = entered;
-        detached.detach(true);
-        assert_eq!(rt; detached, entered, "at {:?}", case.stop);
-
-        let mut listening = entered;
-        listening.listen();
-        assert_eq!(rt; listening.life, case.listening, "at {:?}", case.stop);
-        assert!(rt; listening.joined && listening.report.is_none());
-
-        let mut restarted = entered;
-        assert_eq!(rt; restarted.restart(), case.held, "at {:?}", case.stop);
-        assert_eq!(rt; restarted.life, case.restarted, "at {:?}", case.stop);
-        assert_eq!(rt; restarted.joined, case.takes_part, "at {:?}", case.stop);
-        assert!(rt; restarted.report.is_none());
+        is_so(&rt, case);
     }
     Ok(())
 }

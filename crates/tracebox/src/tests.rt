@@ -4,6 +4,7 @@ mod runs;
 
 use super::*;
 use devices::{Feed, Page, blank_page, new_feed};
+use std::fmt::Debug;
 use std::process::Abort;
 use std::test::Fail;
 
@@ -29,6 +30,11 @@ fn done<T: AllocGlobal>(rt: &T, words: &[&str], input: &str, puts: usize, tells:
     }
 }
 
+/// That a value is the one that is wanted.
+fn same<T: PartialEq + Debug>(rt: &impl Abort, value: &T, want: &T) {
+    assert_eq!(rt; *value, *want);
+}
+
 /// That the words, with an input, end with this status, and with these texts on the writer and for the faults.
 fn expect<T: Abort + AllocGlobal>(
     rt: &T,
@@ -37,8 +43,8 @@ fn expect<T: Abort + AllocGlobal>(
     want: (u8, &str, &str),
 ) -> Result<(), Fail> {
     let done = done(rt, words, input, 1000, true);
-    assert_eq!(rt; done.written.as_slice(), want.1.as_bytes());
-    assert_eq!(rt; done.told.as_slice(), want.2.as_bytes());
-    assert_eq!(rt; done.status, want.0);
+    same(rt, &done.written.as_slice(), &want.1.as_bytes());
+    same(rt, &done.told.as_slice(), &want.2.as_bytes());
+    same(rt, &done.status, &want.0);
     Ok(())
 }

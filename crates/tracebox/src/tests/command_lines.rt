@@ -70,8 +70,8 @@ fn a_command_line_is_not_taken(rt: HostRuntime) -> Result<(), Fail> {
 /// That the words are answered with help in which a text stands.
 fn expect_help<T: Abort + AllocGlobal>(rt: &T, words: &[&str], text: &str) {
     let done = done(rt, words, "", 1000, true);
-    assert_eq!(rt; done.status, 0);
-    assert_eq!(rt; done.told.as_slice(), b"".as_slice());
+    same(rt, &done.status, &0);
+    same(rt, &done.told.as_slice(), &b"".as_slice());
     let help = std::str::from_utf8(&done.written).unwrap_or("");
     assert!(rt; help.contains(text), "{help}");
 }
@@ -86,47 +86,63 @@ fn help_is_written(rt: HostRuntime) {
     expect_help(&rt, &["tracebox", "help", "decode"], "decode <WORD>");
 }
 
-/// A fault by its name and its exit status.
+/// That a fault has this name and this exit status.
+fn is_told(rt: &impl Abort, fault: Fault, name: &str, status: u8) {
+    same(rt, &fault.name(), &name);
+    same(rt, &fault.status(), &status);
+}
+
 #[test]
 fn faults_have_statuses(rt: HostRuntime) {
-    for (fault, name, status) in [
-        (Fault::Usage, "Usage", 2),
-        (Fault::NotAWord, "NotAWord", 1),
-        (Fault::Scenario(ScenarioFault::TooLarge), "TooLarge", 1),
-        (Fault::Scenario(ScenarioFault::BadStart), "BadStart", 1),
-        (Fault::Scenario(ScenarioFault::NoMemory), "NoMemory", 3),
-        (Fault::Scenario(ScenarioFault::ReadFault), "ReadFault", 3),
-        (Fault::Scenario(ScenarioFault::WriteFault), "WriteFault", 3),
-    ] {
-        assert_eq!(rt; fault.name(), name);
-        assert_eq!(rt; fault.status(), status);
-    }
+    is_told(&rt, Fault::Usage, "Usage", 2);
+    is_told(&rt, Fault::NotAWord, "NotAWord", 1);
+    is_told(&rt, Fault::Scenario(ScenarioFault::TooLarge), "TooLarge", 1);
+    is_told(&rt, Fault::Scenario(ScenarioFault::BadStart), "BadStart", 1);
+    is_told(&rt, Fault::Scenario(ScenarioFault::NoMemory), "NoMemory", 3);
+    is_told(
+        &rt,
+        Fault::Scenario(ScenarioFault::ReadFault),
+        "ReadFault",
+        3,
+    );
+    is_told(
+        &rt,
+        Fault::Scenario(ScenarioFault::WriteFault),
+        "WriteFault",
+        3,
+    );
+}
+
+/// That the words end with this status where no fault can be told.
+fn expect_untold<T: Abort + AllocGlobal>(rt: &T, words: &[&str], puts: usize, status: u8) {
+    let done = done(rt, words, "", puts, false);
+    same(rt, &done.status, &status);
+    same(rt, &done.told.len(), &0);
 }
 
 #[test]
 fn a_status_stays_where_its_fault_cannot_be_told(rt: HostRuntime) {
-    for (words, puts, status) in [
-        (["tracebox", "decode", "41"], 9, 1),
-        (["tracebox", "decode", "7g"], 9, 2),
-        (["tracebox", "decode", "0"], 0, 3),
-        (["tracebox", "decode", "0"], 9, 0),
-    ] {
-        let done = done(&rt, &words, "", puts, false);
-        assert_eq!(rt; done.status, status);
-        assert_eq!(rt; done.told.len(), 0);
-    }
+    expect_untold(&rt, &["tracebox", "decode", "41"], 9, 1);
+    expect_untold(&rt, &["tracebox", "decode", "7g"], 9, 2);
+    expect_untold(&rt, &["tracebox", "decode", "0"], 0, 3);
+    expect_untold(&rt, &["tracebox", "decode", "0"], 9, 0);
+}
+
+/// That so much is written where the writer fails after so many puts.
+fn expect_front<T: Abort + AllocGlobal>(rt: &T, words: &[&str], puts: usize, written: &str) {
+    let done = done(rt, words, "", puts, true);
+    same(rt, &done.status, &3);
+    same(
+        rt,
+        &done.told.as_slice(),
+        &b"tracebox: WriteFault\n".as_slice(),
+    );
+    same(rt, &done.written.as_slice(), &written.as_bytes());
 }
 
 #[test]
 fn a_writer_fails(rt: HostRuntime) {
-    for (words, puts, written) in [
-        (["tracebox", "decode", "300"], 0, ""),
-        (["tracebox", "decode", "300"], 1, "exite"),
-        (["tracebox", "help", "decode"], 1, "Tells"),
-    ] {
-        let done = done(&rt, &words, "", puts, true);
-        assert_eq!(rt; done.status, 3);
-        assert_eq!(rt; done.told.as_slice(), b"tracebox: WriteFault\n".as_slice());
-        assert_eq!(rt; done.written.as_slice(), written.as_bytes());
-    }
+    expect_front(&rt, &["tracebox", "decode", "300"], 0, "");
+    expect_front(&rt, &["tracebox", "decode", "300"], 1, "exite");
+    expect_front(&rt, &["tracebox", "help", "decode"], 1, "Tells");
 }

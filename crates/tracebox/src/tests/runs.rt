@@ -50,32 +50,47 @@ fn a_scenario_is_refused(rt: HostRuntime) -> Result<(), Fail> {
     expect_refused(&rt, thread, twice, "tracebox: Repeated\n")
 }
 
-/// A reader that fails after some calls.
-#[test]
-fn a_reader_fails(rt: HostRuntime) {
-    for calls in [0, 1, 2, 30] {
-        let mut reader = new_feed(rt.alloc(), BLOCKED.as_bytes(), calls);
-        let mut writer = blank_page(rt.alloc(), 1000);
-        let mut faults = blank_page(rt.alloc(), 1000);
-        let status = perform(&rt, &SERIAL, &mut reader, &mut writer, &mut faults);
-        assert_eq!(rt; status, 3);
-        assert_eq!(rt; writer.bytes.len(), 0);
-        assert_eq!(rt;
-            faults.bytes.as_slice(),
-            b"tracebox: ReadFault\n".as_slice()
-        );
-    }
+/// That a reader that fails after so many calls is told of.
+fn expect_blame<T: Abort + AllocGlobal>(rt: &T, calls: usize) {
+    let mut reader = new_feed(rt.alloc(), BLOCKED.as_bytes(), calls);
+    let mut writer = blank_page(rt.alloc(), 1000);
+    let mut faults = blank_page(rt.alloc(), 1000);
+    let status = perform(rt, &SERIAL, &mut reader, &mut writer, &mut faults);
+    same(rt, &status, &3);
+    same(rt, &writer.bytes.len(), &0);
+    same(
+        rt,
+        &faults.bytes.as_slice(),
+        &b"tracebox: ReadFault\n".as_slice(),
+    );
 }
 
-/// A writer that fails after some puts took a front of the text, five bytes a put at most.
+#[test]
+fn a_reader_fails(rt: HostRuntime) {
+    expect_blame(&rt, 0);
+    expect_blame(&rt, 1);
+    expect_blame(&rt, 2);
+    expect_blame(&rt, 30);
+}
+
+/// That a writer that fails after so many puts took a front of the text, of at most so many bytes.
+fn expect_front<T: Abort + AllocGlobal>(rt: &T, puts: usize, most: usize) {
+    let done = done(rt, &SERIAL, BLOCKED, puts, true);
+    same(rt, &done.status, &3);
+    same(
+        rt,
+        &done.told.as_slice(),
+        &b"tracebox: WriteFault\n".as_slice(),
+    );
+    assert!(rt; done.written.len() <= most);
+    same(rt, &done.written.is_empty(), &(puts == 0));
+    assert!(rt; TEXT.as_bytes().starts_with(&done.written));
+}
+
 #[test]
 fn a_writer_fails_in_a_run(rt: HostRuntime) {
-    for (puts, most) in [(0, 0), (1, 5), (2, 10), (50, 250)] {
-        let done = done(&rt, &SERIAL, BLOCKED, puts, true);
-        assert_eq!(rt; done.status, 3);
-        assert_eq!(rt; done.told.as_slice(), b"tracebox: WriteFault\n".as_slice());
-        assert!(rt; done.written.len() <= most);
-        assert_eq!(rt; done.written.is_empty(), puts == 0);
-        assert!(rt; TEXT.as_bytes().starts_with(&done.written));
-    }
+    expect_front(&rt, 0, 0);
+    expect_front(&rt, 1, 5);
+    expect_front(&rt, 2, 10);
+    expect_front(&rt, 50, 250);
 }
