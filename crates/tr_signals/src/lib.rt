@@ -2,6 +2,7 @@
 #![tactic(auto)]
 
 pub mod acts;
+mod any;
 mod kills;
 pub mod log;
 pub mod masks;
@@ -10,6 +11,7 @@ pub mod sends;
 pub mod stops;
 mod takes;
 
+pub use any::{check_take_any, take_any};
 pub use kills::{check_kill, check_sigqueue, check_tgkill, kill, sigqueue, tgkill};
 pub use log::{Made, recycle};
 pub use masks::{check_mask, check_pause, mask, pause};
