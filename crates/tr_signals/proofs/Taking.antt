@@ -24,7 +24,11 @@ use Rattle.tr_model.specs.Steps.{takes_instance}
 use Rattle.tr_model.specs.Tables.{Table, queue, thread_in, thread_of}
 use Rattle.tr_model.specs.Takes.{can_take, choices, numbered, take, take_numbered, taken_from}
 use Rattle.tr_model.proofs.Takable.{best_is_chosen}
-use Rattle.tr_signals.specs.Takes.{Takes, queue_of}
+use Rattle.tr_model.specs.declared.replies.Reply.{Reply}
+use Rattle.tr_model.specs.GroupStops.{settle}
+use Rattle.tr_model.specs.Steps.{Outcome}
+use Rattle.tr_model.specs.Steps as Steps
+use Rattle.tr_signals.specs.Takes.{Takes, queue_of, take_outcome}
 
 -- A free thread that holds an instance enters its signal-delivery-stop
 
@@ -128,3 +132,13 @@ took_of T id n t i s d e f =
 
     one_instance : (a b : Instance) → Some a ≡ Some b → a ≡ b
     one_instance a b h = cc
+
+-- what the model says of the entry
+abbrev pub numbered_outcome : Table → ℕ → ℕ → Outcome
+numbered_outcome T id n = record { reply = Steps.took T (thread_of T id) (instance_in T.waiting n); work = settle (at id (take_numbered n) (begin T)) }
+
+joined : (r q : Reply) (v w : Work) → r ≡ q → v ≡ w → ◌≡◌ {A = Outcome} (record { reply = r; work = v }) (record { reply = q; work = w })
+joined r q v w e f = ap (λ (x : Reply). record { reply = x; work = v }) e ∙ ap (λ (x : Work). record { reply = q; work = x }) f
+
+pub outcome_is : (T : Table) (id n : ℕ) (t : Thread) (i : Instance) → thread_of T id ≡ Some t → instance_in T.waiting n ≡ Some i → Took T id n t i → take_outcome T t i ≡ numbered_outcome T id n
+outcome_is T id n t i e f k = joined _ _ _ _ (sym (ap (λ o. Steps.took T o (instance_in T.waiting n)) e ∙ ap (λ o. Steps.took T (Some t) o) f)) (ap settle (sym k.does))

@@ -6,8 +6,12 @@ use Rattle.tr_tracee.specs.declared.thread.Thread.{Thread}
 use Rattle.tr_tracee.specs.Lives.{is_free}
 use Rattle.tr_model.specs.declared.rows.Target.{Target}
 use Rattle.tr_model.specs.Deaths.{begin_death, kill_group}
-use Rattle.tr_model.specs.Moves.{Work, instance_in}
+use Rattle.tr_model.specs.declared.replies.Reply.TheVariants as reply
+use Rattle.tr_model.specs.GroupStops.{settle}
+use Rattle.tr_model.specs.Moves.{Work, begin, instance_in}
+use Rattle.tr_model.specs.Steps.{Outcome}
 use Rattle.tr_model.specs.Tables.{Table, thread_of}
+use Rattle.tr_model.specs.Takes.{take, took}
 use Rattle.tr_model.specs.Journals.{Taken}
 
 -- the queue of a take
@@ -20,6 +24,10 @@ pub record Takes (T : Table) (t : Thread) (i : Instance) : Type 0 where
   pub there : thread_of T t.id ≡ Some t
   pub free : is_free t.life ≡ true
   pub waits : instance_in T.waiting i.n ≡ Some i
+
+-- what comes of it
+abbrev pub take_outcome : Table → Thread → Instance → Outcome
+take_outcome T t i = record { reply = reply.Took t.id i (took T t i); work = settle (take t i (begin T)) }
 
 -- by a signal whose default action ends the group
 abbrev pub die_of : ℕ → ℕ → Work → Work

@@ -1,8 +1,10 @@
-//! Sends, takes and masks: for each event a check, which takes no memory, and the change that makes what is due.
+//! Sends, takes, masks, actions and stops of threads: for each event a check, which takes no memory, and the change that
+//! makes what is due; and the moves of which changes are made.
 #![tactic(auto)]
 
 mod actions;
 pub mod acts;
+mod any;
 pub mod halts;
 mod kills;
 pub mod log;
@@ -13,6 +15,7 @@ pub mod stops;
 mod takes;
 
 pub use actions::{check_set_action, set_action};
+pub use any::{check_take_any, take_any};
 pub use halts::{check_halt, halt};
 pub use kills::{check_kill, check_sigqueue, check_tgkill, fate_in, kill, sigqueue, tgkill};
 pub use log::{Made, recycle};

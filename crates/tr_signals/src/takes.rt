@@ -1,4 +1,4 @@
-ghost use Rattle.std.specs.Prelude.{◌≡◌, ◌+◌, ℕ, IfOk, OnErr, Ok, false};
+ghost use Rattle.std.specs.Prelude.{◌≡◌, ◌+◌, ℕ, IfOk, OnErr, Ok, Some, false};
 ghost use Rattle.tr_pending.specs.declared.instance.Instance.{Instance};
 ghost use Rattle.tr_tracee.specs.declared.thread.Thread.{Thread};
 ghost use Rattle.tr_model.specs.declared.checked.Checked.TheVariants.{Due};
@@ -11,7 +11,7 @@ ghost use Rattle.tr_model.specs.Takes.{act, deliver, take, taken_from, took};
 ghost use Rattle.tr_table.specs.Changes.{tgids};
 ghost use Rattle.tr_signals.specs.Shows.{Room, Shows};
 ghost use Rattle.tr_signals.specs.Makes.{Makes};
-ghost use Rattle.tr_signals.specs.Takes.{Takes, queue_of};
+ghost use Rattle.tr_signals.specs.Takes.{Takes, queue_of, take_outcome};
 ghost use Rattle.tr_pending.specs.Waiting.{best_of};
 ghost use Rattle.tr_model.specs.Tables.{queue};
 ghost use Rattle.tr_model.specs.declared.rows.Target.TheVariants as target;
@@ -105,6 +105,37 @@ fn from_queue(table: &Table, thread: &Thread) -> Target
     }
 }
 
+/// A take that is due: the thread takes the instance. Where memory is refused, or the numbers are used up, nothing has
+/// changed.
+pub(crate) fn take_due(
+    table: &mut Table,
+    alloc: Global,
+    thread: &Thread,
+    instance: &Instance,
+) -> Result<Made, AllocError>
+    requires takes { Takes table.old.table thread.now instance.now }
+    ensures did { IfOk result (λ m. Makes m table.new.table (take_outcome table.old.table thread.now instance.now)) }
+    ensures taken_from { IfOk result (λ m. m.taken_from ≡ Some (taken_from (best_of thread.now.mask (queue table.old.table (target.Thread thread.now.id))) thread.now)) }
+    ensures err { OnErr result (table.new.table ≡ table.old.table) }
+{
+    let from = from_queue(table, thread);
+    let did = did(table, thread, instance);
+    let mut log = reserve(table, alloc, 2)?;
+    take_instance(table, &mut log, thread, instance, did);
+    settle(table, &log);
+    Ok(Made {
+        reply: Reply::Took {
+            tid: thread.id,
+            inst: *instance,
+            did,
+        },
+        ended: log.ended,
+        dying: log.dying,
+        killed: log.killed,
+        taken_from: Some(from),
+    })
+}
+
 /// A take that is due, of the pending instance with this number: a tracee enters a signal-delivery-stop that holds it,
 /// another thread acts on it. Where memory is refused, or the numbers are used up, nothing has changed.
 pub fn take(
@@ -121,20 +152,5 @@ pub fn take(
 {
     let thread = *table.find(tid).unwrap();
     let instance = table.instance(n).unwrap();
-    let from = from_queue(table, &thread);
-    let did = did(table, &thread, &instance);
-    let mut log = reserve(table, alloc, 2)?;
-    take_instance(table, &mut log, &thread, &instance, did);
-    settle(table, &log);
-    Ok(Made {
-        reply: Reply::Took {
-            tid: thread.id,
-            inst: instance,
-            did,
-        },
-        ended: log.ended,
-        dying: log.dying,
-        killed: log.killed,
-        taken_from: Some(from),
-    })
+    take_due(table, alloc, &thread, &instance)
 }

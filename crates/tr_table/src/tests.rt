@@ -496,9 +496,9 @@ fn a_refused_place_leaves_what_waits(rt: HostRuntime) -> Result<(), Fail> {
 
 /// Adds a thread, again where memory was refused the first time.
 fn add(rt: &impl Abort, table: &mut Table, child: &Thread) -> Result<(), Fail> {
-    if table.add(child).is_err() {
+    if add_new(table, child).is_err() {
         assert!(rt; table.find(child.id).is_none());
-        table.add(child)?;
+        add_new(table, child)?;
     }
     Ok(())
 }
