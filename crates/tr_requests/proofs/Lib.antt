@@ -1,2 +1,3 @@
 mod Firsts
+pub mod Cloning
 pub mod Restarting

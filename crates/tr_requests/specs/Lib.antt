@@ -1,3 +1,4 @@
+pub mod Clones
 pub mod Execs
 pub mod Exits
 pub mod Restarts

@@ -2,6 +2,7 @@
 //! what is due.
 #![tactic(auto)]
 
+mod clones;
 mod deaths;
 mod execs;
 mod exits;
@@ -11,6 +12,7 @@ mod tracing;
 mod traps;
 mod waits;
 
+pub use clones::{check_clone_thread, clone_thread};
 pub use deaths::{check_die, die};
 pub use execs::{check_exec, check_finish, exec, finish};
 pub use exits::{check_exit, check_exit_group, exit, exit_group};

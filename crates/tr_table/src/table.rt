@@ -1,4 +1,4 @@
-ghost use Rattle.std.specs.Prelude.{◌≡◌, ◌+◌, ◌<◌, ◌≤◌, OnOk, OnErr, option_copied};
+ghost use Rattle.std.specs.Prelude.{◌≡◌, ◌+◌, ◌<◌, ◌≤◌, OnOk, OnErr, length, option_copied};
 ghost use Rattle.tr_model.specs.Journals.{DistinctIds};
 ghost use Rattle.tr_model.specs.Tables.{group_in, thread_in};
 
@@ -43,6 +43,7 @@ impl Table {
     pub fn find(&self, id: u32) -> Option<&Thread>
         ensures found { option_copied result ≡ thread_in self.now.table.threads id }
         ensures distinct { DistinctIds self.now.table }
+        ensures few { length self.now.table.groups ≤ 1024 }
     {
         find_thread(self.threads.as_slice(), id)
     }

@@ -1,0 +1,129 @@
+-- A clone that is due, and its place in the table.
+use Rattle.std.proofs.Common.{◌≡◌, ◌∙◌, ℕ, ◌+◌, ◌<◌, ◌≤◌, ◌&&◌, ◌||◌, ◌++◌, List, [], ◌∷◌, Bool, true, false, not, Option, Some, None, Result, Ok, Err, if◌then◌else◌, is_some, length, nat_le, refl, sym, ap, arith}
+use Rattle.std.proofs.lemmas.Bool.{and_parts, leb-false, or_parts}
+use Rattle.tr_tracee.specs.declared.thread.Thread.{Thread}
+use Rattle.tr_tracee.specs.declared.life.Life.{Life}
+use Rattle.tr_tracee.specs.Ends.{child}
+use Rattle.tr_tracee.specs.Lives.{held, is_free}
+use Rattle.tr_tracee.specs.Threads.{has_mark}
+use Rattle.tr_model.specs.declared.checked.Checked.{Checked}
+use Rattle.tr_model.specs.declared.checked.Checked.TheVariants.{Due}
+use Rattle.tr_model.specs.declared.events.Choice.{Choice}
+use Rattle.tr_model.specs.declared.events.Event.TheVariants.{CloneThread}
+use Rattle.tr_model.specs.declared.replies.Refusal.{Refusal}
+use Rattle.tr_model.specs.declared.replies.Refusal.TheVariants.{Again, Busy, NotRunning, Srch}
+use Rattle.tr_model.specs.Causes.{at_limit, first, script, thread_then, unless, where_is}
+use Rattle.std.specs.Prelude.{OnOk}
+use Rattle.tr_model.specs.Moves.{Work, added, begin, on_thread, spawn, spawned}
+use Rattle.tr_model.proofs.FreeIds.{new_id_is_new}
+use Rattle.tr_model.specs.Preferred.{check, clone_choice, new_id, quiet_or, refused_or}
+use Rattle.tr_model.specs.Steps.{gives_id, is_new, number}
+use Rattle.tr_model.specs.Tables.{Table, group_of, members, thread_of}
+use Rattle.tr_model.specs.Takes.{can_take}
+use Rattle.tr_table.specs.Held.{helds, one}
+
+refused_due : (why : Refusal) (c : Choice) → Err why ≡ Ok (Due c) → ⊥
+refused_due why c e = cc
+
+pub record IsClone (T : Table) (tid id : ℕ) : Type 0 where
+  pub thread : Thread
+  pub there : thread_of T tid ≡ Some thread
+  pub free : is_free thread.life ≡ true
+  pub few : length T.threads < 1024
+  pub place : length (members T thread.group) < 64
+  pub new : id ≡ new_id T thread.group
+
+given : (a b : ℕ) → gives_id a ≡ gives_id b → a ≡ b
+given a b e = ap (λ c. number c.new_id) e
+
+same_choice : (a b : Choice) → ◌≡◌ {A = Result Checked Refusal} (Ok (Due a)) (Ok (Due b)) → a ≡ b
+same_choice a b e = cc
+
+pub is_clone : (T : Table) (a tid id : ℕ) → check T a (CloneThread tid) ≡ Ok (Due (gives_id id)) → IsClone T tid id
+is_clone T a tid id e = go (thread_of T tid) refl e
+  where
+    by : (t : Thread) → thread_of T tid ≡ Some t → (x y z : Bool) → (is_free t.life && not t.pausing) ≡ x → at_limit T t ≡ z
+        → refused_or (first (unless x NotRunning ∷ where_is y Busy ∷ where_is z Again ∷ [])) (quiet_or None (gives_id (new_id T t.group))) ≡ Ok (Due (gives_id id)) → IsClone T tid id
+    by t h false y z f g q = absurd (refused_due NotRunning (gives_id id) q)
+    by t h true true z f g q = absurd (refused_due Busy (gives_id id) q)
+    by t h true false true f g q = absurd (refused_due Again (gives_id id) q)
+    by t h true false false f g q =
+        let few = or_parts (nat_le 1024 (length T.threads)) (nat_le 64 (length (members T t.group))) g in
+        record {
+          thread = t;
+          there = h;
+          free = (and_parts (is_free t.life) (not t.pausing) f).0;
+          few = leb-false 1024 (length T.threads) few.0;
+          place = leb-false 64 (length (members T t.group)) few.1;
+          new = sym (given (new_id T t.group) id (same_choice (gives_id (new_id T t.group)) (gives_id id) q));
+        }
+
+    go : (o : Option Thread) → thread_of T tid ≡ o → refused_or (first (thread_then o (λ t. script T t ++ where_is (at_limit T t) Again ∷ []))) (quiet_or None (clone_choice T o)) ≡ Ok (Due (gives_id id)) → IsClone T tid id
+    go None h q = absurd (refused_due Srch (gives_id id) q)
+    go (Some t) h q = by t h (is_free t.life && not t.pausing) (has_mark t || can_take T t) (at_limit T t) refl refl q
+
+-- a new id is no thread's
+pub no_thread : (T : Table) (id : ℕ) → is_new T id ≡ true → thread_of T id ≡ None
+no_thread T id e =
+    let a = and_parts (nat_le 2 id) (nat_le id 4194303 && (not (is_some (thread_of T id)) && not (is_some (group_of T id)))) e in
+    let b = and_parts (nat_le id 4194303) (not (is_some (thread_of T id)) && not (is_some (group_of T id))) a.1 in
+    let d = and_parts (not (is_some (thread_of T id))) (not (is_some (group_of T id))) b.1 in
+    none (thread_of T id) d.0
+  where
+    none : (o : Option Thread) → not (is_some o) ≡ true → o ≡ None
+    none None h = refl
+    none (Some t) h = cc
+
+-- a child holds nothing
+pub helds_added : (id : ℕ) (mark : Bool) (t : Thread) (ts : List Thread) → helds (ts ++ child id mark t ∷ []) ≡ helds ts
+helds_added id mark t [] = refl
+helds_added id mark t (x ∷ xs) = omega (arith, helds_added id mark t xs)
+
+-- What a check answers
+
+first_none : (xs ys : List (Option Refusal)) → first xs ≡ None → first (xs ++ ys) ≡ first ys
+first_none [] ys e = refl
+first_none (None ∷ xs) ys e = first_none xs ys e
+first_none (Some why ∷ xs) ys e = cc
+
+first_some : (xs ys : List (Option Refusal)) (why : Refusal) → first xs ≡ Some why → first (xs ++ ys) ≡ Some why
+first_some [] ys why e = cc
+first_some (None ∷ xs) ys why e = first_some xs ys why e
+first_some (Some x ∷ xs) ys why e = e
+
+answer : Table → Option Thread → Result Checked Refusal
+answer T o = refused_or (first (thread_then o (λ t. script T t ++ where_is (at_limit T t) Again ∷ []))) (quiet_or None (clone_choice T o))
+
+pub refused_by_script : (T : Table) (a tid : ℕ) (t : Thread) (why : Refusal) → thread_of T tid ≡ Some t → first (script T t) ≡ Some why → Err why ≡ check T a (CloneThread tid)
+unfolding answer
+refused_by_script T a tid t why e h =
+    sym (ap (answer T) e ∙ ap (λ o. refused_or o (quiet_or None (clone_choice T (Some t)))) (first_some (script T t) (where_is (at_limit T t) Again ∷ []) why h))
+
+pub refused_at_limit : (T : Table) (a tid : ℕ) (t : Thread) → thread_of T tid ≡ Some t → first (script T t) ≡ None → at_limit T t ≡ true → Err Again ≡ check T a (CloneThread tid)
+unfolding answer
+refused_at_limit T a tid t e h k =
+    sym (ap (answer T) e ∙ ap (λ o. refused_or o (quiet_or None (clone_choice T (Some t)))) (first_none (script T t) (where_is (at_limit T t) Again ∷ []) h ∙ ap (λ b. first (where_is b Again ∷ [])) k))
+
+pub due_with_id : (T : Table) (a tid : ℕ) (t : Thread) → thread_of T tid ≡ Some t → first (script T t) ≡ None → at_limit T t ≡ false → Ok (Due (gives_id (new_id T t.group))) ≡ check T a (CloneThread tid)
+unfolding answer
+due_with_id T a tid t e h k =
+    sym (ap (answer T) e ∙ ap (λ o. refused_or o (quiet_or None (clone_choice T (Some t)))) (first_none (script T t) (where_is (at_limit T t) Again ∷ []) h ∙ ap (λ b. first (where_is b Again ∷ [])) k))
+
+pub same_thread : (a b : Thread) → Some a ≡ Some b → a ≡ b
+same_thread a b e = cc
+
+pub none_script : (o : Option Refusal) → ((why : Refusal) → o ≡ Some why → ⊥) → o ≡ None
+none_script None h = refl
+none_script (Some why) h = absurd (h why refl)
+
+pub is_new_id : (T : Table) (tid id : ℕ) → length T.groups ≤ 1024 → (d : IsClone T tid id) → thread_of T id ≡ None
+is_new_id T tid id h d = no_thread T id (rw d.new (new_id_is_new T d.thread.group (let k = d.few in omega (arith, h, k))))
+
+-- what the model makes of it
+pub spawns : (T : Table) (tid id : ℕ) (mark : Bool) (t : Thread) → thread_of T tid ≡ Some t → thread_of T t.id ≡ Some t → is_free t.life ≡ true
+    → spawn t.id id mark (begin T) ≡ added (child id mark t) (begin T)
+spawns T tid id mark t e f h = ap (λ o. on_thread o (spawned id mark) (begin T)) f ∙ ap (λ b. if b then added (child id mark t) (begin T) else begin T) h
+
+pub on_ok : {A B : Type 0} (r : Result A B) (P Q : Type 0) → OnOk r P → (P → Q) → OnOk r Q
+on_ok (Ok a) P Q p f = f p
+on_ok (Err b) P Q p f = p
