@@ -1,10 +1,9 @@
 -- A clone that is due, and its place in the table.
-use Rattle.std.proofs.Common.{◌≡◌, ◌∙◌, ℕ, ◌+◌, ◌<◌, ◌≤◌, ◌&&◌, ◌||◌, ◌++◌, List, [], ◌∷◌, Bool, true, false, not, Option, Some, None, Result, Ok, Err, if◌then◌else◌, is_some, length, nat_le, refl, sym, ap, arith}
+use Rattle.std.proofs.Common.{◌≡◌, ◌∙◌, ℕ, ◌<◌, ◌≤◌, ◌&&◌, ◌||◌, ◌++◌, List, [], ◌∷◌, Bool, true, false, not, Option, Some, None, Result, Ok, Err, if◌then◌else◌, is_some, length, nat_le, refl, sym, ap, arith}
 use Rattle.std.proofs.lemmas.Bool.{and_parts, leb-false, or_parts}
 use Rattle.tr_tracee.specs.declared.thread.Thread.{Thread}
-use Rattle.tr_tracee.specs.declared.life.Life.{Life}
 use Rattle.tr_tracee.specs.Ends.{child}
-use Rattle.tr_tracee.specs.Lives.{held, is_free}
+use Rattle.tr_tracee.specs.Lives.{is_free}
 use Rattle.tr_tracee.specs.Threads.{has_mark}
 use Rattle.tr_model.specs.declared.checked.Checked.{Checked}
 use Rattle.tr_model.specs.declared.checked.Checked.TheVariants.{Due}
@@ -14,13 +13,13 @@ use Rattle.tr_model.specs.declared.replies.Refusal.{Refusal}
 use Rattle.tr_model.specs.declared.replies.Refusal.TheVariants.{Again, Busy, NotRunning, Srch}
 use Rattle.tr_model.specs.Causes.{at_limit, first, script, thread_then, unless, where_is}
 use Rattle.std.specs.Prelude.{OnOk}
-use Rattle.tr_model.specs.Moves.{Work, added, begin, on_thread, spawn, spawned}
+use Rattle.tr_model.specs.Moves.{added, begin, on_thread, spawn, spawned}
 use Rattle.tr_model.proofs.FreeIds.{new_id_is_new}
 use Rattle.tr_model.specs.Preferred.{check, clone_choice, new_id, quiet_or, refused_or}
 use Rattle.tr_model.specs.Steps.{gives_id, is_new, number}
 use Rattle.tr_model.specs.Tables.{Table, group_of, members, thread_of}
 use Rattle.tr_model.specs.Takes.{can_take}
-use Rattle.tr_table.specs.Held.{helds, one}
+use Rattle.tr_table.specs.Held.{helds}
 
 refused_due : (why : Refusal) (c : Choice) → Err why ≡ Ok (Due c) → ⊥
 refused_due why c e = cc

@@ -1,3 +1,4 @@
 mod Firsts
 pub mod Cloning
+pub mod Leaving
 pub mod Restarting

@@ -1,5 +1,5 @@
 -- A thread that leaves its stop, and what it held.
-use Rattle.std.proofs.Common.{◌≡◌, ◌∙◌, ℕ, zero, suc, ◌+◌, ◌≤◌, ◌==◌, ◌++◌, List, [], ◌∷◌, Bool, true, false, Option, Some, None, Result, Ok, Err, if◌then◌else◌, is_some, nat_lt, refl, sym, ap, arith}
+use Rattle.std.proofs.Common.{◌≡◌, ◌∙◌, ℕ, zero, suc, ◌+◌, ◌≤◌, ◌==◌, List, [], ◌∷◌, Bool, true, false, Option, Some, None, Ok, Err, if◌then◌else◌, is_some, nat_lt, refl, sym, ap, arith}
 use Rattle.std.proofs.lemmas.Bool.{ltb-false, ne_eqb}
 use Rattle.std.specs.Option.{SomeIff}
 use Rattle.tr_sigset.specs.Signals.{IsSignal}
@@ -11,7 +11,6 @@ use Rattle.tr_tracee.specs.declared.thread.Thread.{Thread}
 use Rattle.tr_tracee.specs.Lives.{held}
 use Rattle.tr_tracee.specs.Stops.{listening, listening_life, restarted, restarted_life}
 use Rattle.tr_model.specs.declared.fates.Fate.{Fate}
-use Rattle.tr_model.specs.declared.fates.Ending.{Ending}
 use Rattle.tr_model.specs.declared.checked.Checked.TheVariants.{Due}
 use Rattle.tr_model.specs.declared.replies.Refusal.{Refusal}
 use Rattle.tr_model.specs.declared.replies.Refusal.TheVariants.{Io, Srch}

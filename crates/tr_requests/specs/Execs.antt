@@ -1,6 +1,5 @@
 -- How execve(2) goes on for a thread.
 use Rattle.std.specs.Prelude.{ℕ, pos, if◌then◌else◌}
-use Rattle.tr_tracee.specs.declared.life.End.TheVariants.{Exited}
 use Rattle.tr_tracee.specs.declared.life.Stop.TheVariants as stop
 use Rattle.tr_tracee.specs.declared.thread.Thread.{Thread}
 use Rattle.tr_tracee.specs.Ends.{execing}

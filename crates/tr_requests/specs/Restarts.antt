@@ -1,5 +1,5 @@
 -- A restart, by the signal that the tracer gives: none for 0.
-use Rattle.std.specs.Prelude.{ℕ, ◌==◌, ◌++◌, [], ◌∷◌, Option, Some, None, Result, if◌then◌else◌, nat_lt}
+use Rattle.std.specs.Prelude.{ℕ, ◌==◌, [], ◌∷◌, Option, Some, None, Result, if◌then◌else◌, nat_lt}
 use Rattle.tr_pending.specs.declared.instance.Instance.{Instance}
 use Rattle.tr_tracee.specs.declared.thread.Thread.{Thread}
 use Rattle.tr_tracee.specs.Lives.{cont_came, held}

@@ -18,12 +18,12 @@ ghost use Rattle.tr_requests.specs.Clones.{stop_child};
 use std::alloc::{AllocError, Global};
 use tr_model::{Checked, Choice, Refusal, Reply, Target};
 use tr_pending::Info;
-use tr_sigset::Signal;
 use tr_signals::Made;
 use tr_signals::log::{NO_CHOICE, reserve};
 use tr_signals::masks::script;
 use tr_signals::moves::{enqueue, enter};
 use tr_signals::stops::{finish, stop_now};
+use tr_sigset::Signal;
 use tr_table::{Log, Table};
 use tr_tracee::{Stop, Thread};
 

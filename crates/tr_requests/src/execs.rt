@@ -16,13 +16,13 @@ ghost use Rattle.tr_requests.specs.Execs.{send_trap, stop_or_trap, wait_for_othe
 use std::alloc::{AllocError, Global};
 use tr_model::{Checked, Refusal, Reply, Target};
 use tr_pending::Info;
-use tr_sigset::Signal;
 use tr_signals::Made;
 use tr_signals::log::{NO_CHOICE, reserve};
 use tr_signals::masks::check_script;
 use tr_signals::moves::{change_group, change_thread, enter, leave_for_exec, take_place};
 use tr_signals::sends::send;
 use tr_signals::stops::finish as finish_step;
+use tr_sigset::Signal;
 use tr_table::{GroupChange, Log, Own, Table};
 use tr_tracee::{End, Stop, Thread};
 

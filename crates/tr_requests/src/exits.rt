@@ -38,7 +38,7 @@ pub(crate) fn word_of_end(end: &End) -> u32
     encode(end.status()).0
 }
 
-fn leave_or_stop(table: &mut Table, log: &Log, thread: &Thread, end: &End) 
+fn leave_or_stop(table: &mut Table, log: &Log, thread: &Thread, end: &End)
     requires { Room table.old log.now 1 }
     ensures shows { (l : Log) (w : Work) → Shows table.old l w → Shows table.new l (leave_or_stop thread.now end.now w) }
     ensures room { (l : Log) (n : ℕ) → Room table.old l (n + 1) → Room table.new l n }

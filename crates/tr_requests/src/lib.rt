@@ -8,6 +8,7 @@ mod execs;
 mod exits;
 mod questions;
 mod restarts;
+mod tracers;
 mod tracing;
 mod traps;
 mod waits;
@@ -18,6 +19,7 @@ pub use execs::{check_exec, check_finish, exec, finish};
 pub use exits::{check_exit, check_exit_group, exit, exit_group};
 pub use questions::{check_event_message, check_signal_info};
 pub use restarts::{check_cont, check_detach, check_listen, cont, detach, listen};
+pub use tracers::{check_tracer_exit, tracer_exit};
 pub use tracing::{
     attach, check_attach, check_interrupt, check_seize, check_set_options, interrupt, seize,
     set_options,

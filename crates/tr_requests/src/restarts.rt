@@ -19,13 +19,13 @@ use crate::tracing::stopped;
 use std::alloc::{AllocError, Global};
 use tr_model::{Checked, Ending, Fate, Refusal, Reply, Target};
 use tr_pending::{Info, Instance};
-use tr_sigset::Signal;
 use tr_signals::Made;
 use tr_signals::acts::act_on;
 use tr_signals::log::{NO_CHOICE, reserve};
 use tr_signals::moves::{accept_as, change_thread};
 use tr_signals::sends::put;
 use tr_signals::stops::{finish, stop_now};
+use tr_sigset::Signal;
 use tr_table::{Log, Own, Table};
 use tr_tracee::Thread;
 
@@ -148,12 +148,7 @@ fn restart_by(
 }
 
 /// Restarts a tracee, with a signal or without: from a stop that holds none the signal is ignored.
-pub(crate) fn restart(
-    table: &mut Table,
-    log: &mut Log,
-    thread: &Thread,
-    signal: Option<Signal>,
-)
+pub(crate) fn restart(table: &mut Table, log: &mut Log, thread: &Thread, signal: Option<Signal>)
     requires room { Room table.old log.old 3 }
     requires there { thread_of table.old.table thread.now.id ≡ Some thread.now }
     ensures shows { (w : Work) → Shows table.old log.old w → Shows table.new log.new (restart_from thread.now signal (held thread.now.life) w) }

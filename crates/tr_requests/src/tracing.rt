@@ -16,7 +16,6 @@ ghost use Rattle.tr_requests.specs.Tracing.{attach_checked, attach_sends};
 use std::alloc::{AllocError, Global};
 use tr_model::{Checked, Refusal, Reply, Target};
 use tr_pending::Info;
-use tr_sigset::Signal;
 use tr_signals::halts::stop_at;
 use tr_signals::log::{NO_CHOICE, reserve};
 use tr_signals::masks::change_own;
@@ -24,6 +23,7 @@ use tr_signals::moves::change_thread;
 use tr_signals::sends::send;
 use tr_signals::stops::{finish, stop_now};
 use tr_signals::{Made, fate_in};
+use tr_sigset::Signal;
 use tr_table::{Log, Own, Table};
 use tr_tracee::{Options, Thread, Trace};
 
@@ -151,12 +151,7 @@ pub fn check_attach(table: &Table, tid: u32) -> Result<Checked, Refusal>
 /// An attach that is due: `PTRACE_ATTACH`. The actor traces the thread, which is sent SIGSTOP; a stopped thread is then
 /// in the ptrace-stop of its group-stop. The reply has the number of the SIGSTOP, and its fate right after the step.
 /// Where memory is refused, or the numbers are used up, nothing has changed.
-pub fn attach(
-    table: &mut Table,
-    alloc: Global,
-    actor: u32,
-    tid: u32,
-) -> Result<Made, AllocError>
+pub fn attach(table: &mut Table, alloc: Global, actor: u32, tid: u32) -> Result<Made, AllocError>
     requires due { check table.old.table actor (Attach tid) ≡ Ok (Due no_choice) }
     ensures did { IfOk result (λ m. Makes m table.new.table (after table.old.table (record { actor = actor; event = Attach tid; choice = no_choice }))) }
     ensures taken_from { IfOk result (λ m. m.taken_from ≡ None) }
@@ -237,12 +232,7 @@ pub fn check_interrupt(table: &Table, actor: u32, tid: u32) -> Result<Checked, R
 
 /// An interrupt that is due: `PTRACE_INTERRUPT` sets the trap mark. Where memory is refused, or the numbers are used up,
 /// nothing has changed.
-pub fn interrupt(
-    table: &mut Table,
-    alloc: Global,
-    actor: u32,
-    tid: u32,
-) -> Result<Made, AllocError>
+pub fn interrupt(table: &mut Table, alloc: Global, actor: u32, tid: u32) -> Result<Made, AllocError>
     requires due { check table.old.table actor (Interrupt tid) ≡ Ok (Due no_choice) }
     ensures did { IfOk result (λ m. Makes m table.new.table (after table.old.table (record { actor = actor; event = Interrupt tid; choice = no_choice }))) }
     ensures taken_from { IfOk result (λ m. m.taken_from ≡ None) }

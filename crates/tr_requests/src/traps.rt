@@ -12,11 +12,11 @@ ghost use Rattle.tr_signals.specs.Shows.{Room, Shows};
 
 use std::alloc::{AllocError, Global};
 use tr_model::{Checked, Refusal, Reply};
-use tr_sigset::Signal;
 use tr_signals::Made;
 use tr_signals::log::{NO_CHOICE, reserve};
 use tr_signals::moves::{change_thread, enter};
 use tr_signals::stops::{finish, stop_now};
+use tr_sigset::Signal;
 use tr_table::{Log, Own, Table};
 use tr_tracee::{Stop, Thread};
 use tr_wait::StopSig;

@@ -67,7 +67,8 @@ fn is_all_dead(table: &Table, tgid: u32) -> bool
     table.all_dead(tgid)
 }
 
-fn deliver_kill(table: &mut Table, log: &mut Log, tgid: u32, signal: Signal)
+/// A KILL is accepted and delivered to a group at once.
+pub fn deliver_kill(table: &mut Table, log: &mut Log, tgid: u32, signal: Signal)
     requires room { Room table.old log.old 3 }
     requires kill { signal ≡ 9 }
     ensures shows { (w : Work) → Shows table.old log.old w → Shows table.new log.new (kill_group tgid (accept_as Delivered w)) }

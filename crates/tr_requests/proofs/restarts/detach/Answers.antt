@@ -1,5 +1,5 @@
 use Rattle.std.proofs.Common.{◌≡◌, ◌+◌, ◌≤◌, ◌∙◌, ap, arith, length}
-use Rattle.tr_model.specs.Moves.{at, begin}
+use Rattle.tr_model.specs.Moves.{begin}
 use Rattle.tr_table.specs.Changes.{tgids}
 use Rattle.tr_requests.proofs.Restarting.{at_same, due_at_most, restart_same}
 use Rattle.tr_model.specs.Requests.{detach, untrace}

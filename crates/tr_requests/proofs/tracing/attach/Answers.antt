@@ -16,5 +16,5 @@ returns-clause-did c =
     let b = c.finish.ensures.makes _ a in
     let m : c.accepted-n.result ≡ c.args.table.now.table.accepted = c.accepted-n.ensures ∙ ap (λ T. T.accepted) c.in_ok-log.ensures.same in
     let f : c.fate_in-fate.result ≡ fate_in c.finish.result.ended.items (c.args.table.now.table.accepted + 1) =
-        c.fate_in-fate.ensures ∙ ap (λ es. fate_in es (c.accepted-n.result + 1)) (c.deref.ensures.value ∙ ap (λ v. v.items) (sym c.finish.ensures.ended)) ∙ ap (λ k. fate_in c.finish.result.ended.items (k + 1)) m in
+    c.fate_in-fate.ensures ∙ ap (λ es. fate_in es (c.accepted-n.result + 1)) (c.deref.ensures.value ∙ ap (λ v. v.items) (sym c.finish.ensures.ended)) ∙ ap (λ k. fate_in c.finish.result.ended.items (k + 1)) m in
     record { reply = b.reply ∙ (rw (f, b.ended, m) refl); table = b.table; ended = b.ended; dying = b.dying; killed = b.killed }
