@@ -7,8 +7,8 @@ use Rattle.tr_model.specs.declared.events.Event.{Event}
 use Rattle.tr_model.specs.declared.replies.Refusal.{Refusal}
 use Rattle.tr_model.specs.declared.replies.Refusal.TheVariants.{Perm, Srch, Io, Child, Again, NoMemory, Inval, Busy, NotDue, NotRunning, Unmodelled, ThreadedExec, JournalFull}
 use Rattle.tr_model.specs.declared.replies.Reply.{Reply}
-use Rattle.tr_model.specs.Causes.{quiet_of}
-use Rattle.tr_model.specs.Preferred.{check, preferred, quiet_or, refused, refused_or}
+use Rattle.tr_model.specs.Causes.{cause_of, quiet_of}
+use Rattle.tr_model.specs.Preferred.{check, preferred, quiet_or, refused_or}
 use Rattle.tr_model.specs.Runs.{Answer, Call, Entered, Read, Refused, call_by, made, unless_full}
 use Rattle.tr_model.specs.Runs as runs
 use Rattle.tr_kernel.specs.States.{State, IsDue, IsEntered, IsQuiet, IsRefusal, entry_of}

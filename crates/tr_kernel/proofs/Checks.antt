@@ -1,22 +1,26 @@
 -- What a check says, in its parts.
-use Rattle.std.proofs.Common.{◌≡◌, ℕ, Bool, true, false, not, if◌then◌else◌, is_some, Option, Some, None, Result, Ok, Err, refl, sym, ap}
+use Rattle.std.proofs.Common.{◌≡◌, ◌∙◌, ◌||◌, ◌++◌, ◌∷◌, [], ℕ, List, Bool, true, false, not, if◌then◌else◌, is_some, Option, Some, None, Result, Ok, Err, refl, sym, ap}
+use Rattle.std.specs.List.{list_any}
 use Rattle.tr_model.specs.declared.checked.Checked.{Checked}
 use Rattle.tr_model.specs.declared.checked.Checked.TheVariants.{Due, Quiet}
 use Rattle.tr_model.specs.declared.events.Choice.{Choice}
 use Rattle.tr_model.specs.declared.events.Event.{Event}
 use Rattle.tr_model.specs.declared.replies.Refusal.{Refusal}
-use Rattle.tr_model.specs.declared.replies.Refusal.TheVariants.{Unmodelled}
+use Rattle.tr_model.specs.declared.replies.Refusal.TheVariants.{Again}
 use Rattle.tr_model.specs.declared.replies.Reply.{Reply}
 use Rattle.tr_pending.specs.declared.instance.Instance.{Instance}
 use Rattle.tr_tracee.specs.declared.thread.Thread.{Thread}
-use Rattle.tr_model.specs.declared.events.Event.TheVariants.{Take}
-use Rattle.tr_model.specs.Causes.{can_take_thread, cause_of, nothing_where, quiet_of}
-use Rattle.tr_model.specs.Steps.{takes_instance}
+use Rattle.tr_model.specs.declared.events.Event.TheVariants.{CloneThread, StarterWait, Take, TakeAny, Wait}
+use Rattle.tr_model.specs.Causes.{at_limit, can_take_thread, cause_of, first, is_empty, nothing_where, quiet_of, script, thread_then, where_is}
+use Rattle.tr_model.specs.Steps.{gives_id, gives_report, takes_by, takes_instance}
 use Rattle.tr_model.specs.Takes.{can_take}
 use Rattle.tr_model.proofs.Takable.{can_take_best}
 use Rattle.tr_model.specs.Laws.{IsCause}
-use Rattle.tr_model.specs.Preferred.{best_for, check, is_served, preferred, quiet_or, refused, refused_or, take_choice, taking}
-use Rattle.tr_model.specs.Tables.{Table, thread_of}
+use Rattle.tr_model.specs.Preferred.{best_for, check, clone_choice, new_id, preferred, quiet_or, refused_or, reporting, take_any_choice, take_choice, taking, taking_by}
+use Rattle.tr_model.specs.Tables.{Table, members, thread_of}
+use Rattle.tr_model.specs.Waits.{ready, ready_for_starter}
+use Rattle.tr_wait.specs.declared.waits.WaitFlags.{WaitFlags}
+use Rattle.tr_wait.specs.declared.waits.Which.{Which}
 use Rattle.tr_model.proofs.Causing.{causes_are_causes}
 
 some_same : {A : Type 0} (x y : A) → Some x ≡ Some y → x ≡ y
@@ -41,24 +45,15 @@ due_parts (Some why) q p c e = absurd cc
 due_parts None (Some r) p c e = absurd cc
 due_parts None None p c e = (refl, refl, sym (due_same p c e))
 
--- no cause is found where an event is served and not refused
-served : (T : Table) (a : ℕ) (e : Event) → cause_of T a e ≡ None → cause_of T a e ≡ None
-served T a e h = go (is_served e) h
-  where
-    go : (b : Bool) → (if b then cause_of T a e else Some Unmodelled) ≡ None → cause_of T a e ≡ None
-    go true q = q
-    go false q = absurd (none_some Unmodelled (sym q))
-
 pub record Dues (T : Table) (a : ℕ) (e : Event) (c : Choice) : Type 0 where
   pub no_cause : cause_of T a e ≡ None
-  pub not_refused : cause_of T a e ≡ None
   pub not_quiet : quiet_of T a e ≡ None
   pub preferred : c ≡ preferred T a e
 
 pub dues : (T : Table) (a : ℕ) (e : Event) (c : Choice) → check T a e ≡ Ok (Due c) → Dues T a e c
 dues T a e c h =
     let p = due_parts (cause_of T a e) (quiet_of T a e) (preferred T a e) c h in
-    record { no_cause = p.0; not_refused = served T a e p.0; not_quiet = p.1; preferred = p.2 }
+    record { no_cause = p.0; not_quiet = p.1; preferred = p.2 }
 
 -- What is quiet
 
@@ -81,14 +76,7 @@ pub refusals : (T : Table) (a : ℕ) (e : Event) (why : Refusal) → check T a e
 refusals T a e why h = err_parts (cause_of T a e) (quiet_of T a e) (preferred T a e) why h
 
 pub is_cause : (T : Table) (a : ℕ) (e : Event) (why : Refusal) → cause_of T a e ≡ Some why → IsCause why
-is_cause T a e why h = go (is_served e) h
-  where
-    unmodelled : (x : Refusal) → Unmodelled ≡ x → IsCause x
-    unmodelled x q = rw (sym q) (record { memory = λ m. cc; full = λ m. cc; threaded = λ m. cc })
-
-    go : (b : Bool) → (if b then cause_of T a e else Some Unmodelled) ≡ Some why → IsCause why
-    go true q = causes_are_causes T a e why q
-    go false q = unmodelled why (some_same Unmodelled why q)
+is_cause T a e why h = causes_are_causes T a e why h
 
 -- A take that isn't quiet has the number of an instance
 
@@ -103,3 +91,53 @@ take_numbered T a id c q p = go (thread_of T id) q p
     go : (o : Option Thread) → nothing_where (not (can_take_thread T o)) ≡ None → c ≡ take_choice T o → (n : ℕ) × (c ≡ takes_instance n)
     go None q p = absurd cc
     go (Some t) q p = found (best_for T t) (can_take T t) (can_take_best T t) q p
+
+-- A take by any thread that isn't quiet has a thread and the number of an instance
+
+pub take_any_numbered : (T : Table) (a g : ℕ) (c : Choice) → quiet_of T a (TakeAny g) ≡ None → c ≡ preferred T a (TakeAny g) → (id : ℕ) × (n : ℕ) × (c ≡ takes_by id n)
+take_any_numbered T a g c q p = go (members T g) q p
+  where
+    found : (t : Thread) (o : Option Instance) → is_some o ≡ true → c ≡ taking_by t.id o → (id : ℕ) × (n : ℕ) × (c ≡ takes_by id n)
+    found t None e p = cc
+    found t (Some i) e p = (t.id, i.n, p)
+
+    by : (t : Thread) (ts : List Thread) → ((nothing_where (not (list_any (can_take T) ts)) ≡ None) → c ≡ take_any_choice T ts → (id : ℕ) × (n : ℕ) × (c ≡ takes_by id n))
+        → (b : Bool) → can_take T t ≡ b → nothing_where (not (b || list_any (can_take T) ts)) ≡ None → c ≡ (if b then taking_by t.id (best_for T t) else take_any_choice T ts) → (id : ℕ) × (n : ℕ) × (c ≡ takes_by id n)
+    by t ts later true e q p = found t (best_for T t) (sym (can_take_best T t) ∙ e) p
+    by t ts later false e q p = later q p
+
+    go : (ts : List Thread) → nothing_where (not (list_any (can_take T) ts)) ≡ None → c ≡ take_any_choice T ts → (id : ℕ) × (n : ℕ) × (c ≡ takes_by id n)
+    go [] q p = absurd cc
+    go (t ∷ ts) q p = by t ts (go ts) (can_take T t) refl q p
+
+-- A clone that isn't refused has an id
+
+pub clone_numbered : (T : Table) (a tid : ℕ) (c : Choice) → cause_of T a (CloneThread tid) ≡ None → c ≡ preferred T a (CloneThread tid) → (id : ℕ) × (c ≡ gives_id id)
+clone_numbered T a tid c q p = go (thread_of T tid) q p
+  where
+    go : (o : Option Thread) → first (thread_then o (λ t. script T t ++ where_is (at_limit T t) Again ∷ [])) ≡ None → c ≡ clone_choice T o → (id : ℕ) × (c ≡ gives_id id)
+    go None q p = absurd cc
+    go (Some t) q p = (new_id T t.group, p)
+
+-- A wait that isn't quiet has a report
+
+reported : (rs : List ℕ) (c : Choice) → nothing_where (is_empty rs) ≡ None → c ≡ reporting rs → (r : ℕ) × (c ≡ gives_report r)
+reported [] c q p = absurd cc
+reported (r ∷ rs) c q p = (r, p)
+
+pub wait_numbered : (T : Table) (a : ℕ) (which : Which) (c : Choice) → quiet_of T a (Wait which) ≡ None → c ≡ preferred T a (Wait which) → (r : ℕ) × (c ≡ gives_report r)
+wait_numbered T a which c q p = reported (ready T a which) c q p
+
+pub starter_numbered : (T : Table) (a : ℕ) (which : Which) (flags : WaitFlags) (c : Choice) → quiet_of T a (StarterWait which flags) ≡ None → c ≡ preferred T a (StarterWait which flags) → (r : ℕ) × (c ≡ gives_report r)
+starter_numbered T a which flags c q p = reported (ready_for_starter T which flags) c q p
+
+-- The fields of a choice
+
+pub same_take_by : (c : Choice) (id n u v : ℕ) → c ≡ takes_by id n → c.thread ≡ Some u → c.instance ≡ Some v → c ≡ takes_by u v
+same_take_by c id n u v e f g = e ∙ (ap (λ x. takes_by x n) (some_same id u (sym (ap (λ x. x.thread) e) ∙ f)) ∙ ap (takes_by u) (some_same n v (sym (ap (λ x. x.instance) e) ∙ g)))
+
+pub same_id : (c : Choice) (id u : ℕ) → c ≡ gives_id id → c.new_id ≡ Some u → c ≡ gives_id u
+same_id c id u e f = e ∙ ap gives_id (some_same id u (sym (ap (λ x. x.new_id) e) ∙ f))
+
+pub same_report : (c : Choice) (r u : ℕ) → c ≡ gives_report r → c.report ≡ Some u → c ≡ gives_report u
+same_report c r u e f = e ∙ ap gives_report (some_same r u (sym (ap (λ x. x.report) e) ∙ f))

@@ -76,9 +76,9 @@ due_step k a e c h d =
     let s = is_start k.start h.good in
     let T = table_of k.start in
     let admitted : Admits k.table a e (preferred k.table a e) =
-    preferred_is_admitted k.table a e (some_id_is_free T k.table k.journal k.replies s h.replayed) (ids_are_distinct T k.table k.journal k.replies s h.replayed) (waiting_is_sorted T k.table k.journal k.replies s h.replayed) z.not_refused z.not_quiet in
+    preferred_is_admitted k.table a e (some_id_is_free T k.table k.journal k.replies s h.replayed) (ids_are_distinct T k.table k.journal k.replies s h.replayed) (waiting_is_sorted T k.table k.journal k.replies s h.replayed) z.no_cause z.not_quiet in
     record {
-      not_refused = z.not_refused;
+      not_refused = z.no_cause;
       not_quiet = z.not_quiet;
       choice = subst (λ x. Admits k.table a e x) (sym z.preferred) admitted;
       reply = refl;

@@ -4,7 +4,8 @@ use Rattle.tr_model.specs.declared.events.Event.{Event}
 use Rattle.tr_model.specs.declared.replies.Refusal.{Refusal}
 use Rattle.tr_model.specs.declared.replies.Refusal.TheVariants.{Perm, Srch, Io, Child, Again, NoMemory, Inval, Busy, NotDue, NotRunning, Unmodelled, ThreadedExec, JournalFull}
 use Rattle.tr_model.specs.declared.replies.Reply.{Reply}
-use Rattle.tr_model.specs.Preferred.{check, refused}
+use Rattle.tr_model.specs.Causes.{cause_of}
+use Rattle.tr_model.specs.Preferred.{check}
 use Rattle.tr_kernel.specs.States.{IsRefusal, State}
 use Rattle.tr_kernel.proofs.Checks.{is_cause, refusals}
 

@@ -6,9 +6,9 @@ use Rattle.tr_model.specs.declared.fates.Fate.{Fate}
 use Rattle.tr_model.specs.declared.replies.Refusal.{Refusal}
 use Rattle.tr_model.specs.declared.replies.Refusal.TheVariants.{NoMemory, JournalFull}
 use Rattle.tr_model.specs.declared.replies.Reply.{Reply}
-use Rattle.tr_model.specs.Causes.{quiet_of}
+use Rattle.tr_model.specs.Causes.{cause_of, quiet_of}
 use Rattle.tr_model.specs.Journals.{Replay, ended_by}
-use Rattle.tr_model.specs.Preferred.{preferred, refused}
+use Rattle.tr_model.specs.Preferred.{preferred}
 use Rattle.tr_model.specs.Steps.{Step}
 use Rattle.tr_model.specs.Tables.{Table}
 use Rattle.tr_table.specs.declared.starts.Start.{Start}

@@ -106,6 +106,7 @@ from_2_is_new T free = go (least_new T 4194302 2) refl
     go None e = absurd (some_is_found T free e)
 
 pub new_id_is_new : (T : Table) (g : ℕ) → HasFreeId T → is_new T (new_id T g) ≡ true
+unfolding new_id
 new_id_is_new T g free = go (least_new T (4194303 - g) (g + 1)) refl
   where
     go : (o : Option ℕ) → least_new T (4194303 - g) (g + 1) ≡ o → is_new T (or_from_2 T o) ≡ true

@@ -15,6 +15,7 @@ use Rattle.tr_tracee.specs.Threads.{no_options, tracer_of}
 use Rattle.tr_group.specs.declared.stops.Action.{Action}
 use Rattle.tr_group.specs.declared.stops.Action.TheVariants.{Default, Ignore, Catch}
 use Rattle.tr_group.specs.declared.stops.GroupStop.TheVariants.{No}
+use Rattle.tr_model.specs.Preferred.{new_id}
 use Rattle.tr_model.specs.declared.events.Event.{Event}
 use Rattle.tr_model.specs.declared.events.Event.TheVariants as event
 use Rattle.tr_model.specs.declared.fates.Fate.{Fate}
@@ -629,17 +630,17 @@ leaving_none = cloning ++ map block_12 (count_up 10 64) ++ kill 12 ∷ take_any 
 
 -- clones get the least free ids, 64 threads are the most in a group, and the one thread that does not block a signal takes it
 the_only_thread_that_does_not_block_a_signal_takes_it : answers one leaving_one ≡ cloned_all ++ Refused Again ∷ replicate 63 ok ++ sent 1 Pending ∷ took 73 1 12 Dying ∷ []
-unfolding in_word
+unfolding in_word new_id
 the_only_thread_that_does_not_block_a_signal_takes_it = refl
 
 -- where every thread blocks it nobody takes it
 a_signal_that_every_thread_blocks_is_not_taken : answers one leaving_none ≡ cloned_all ++ replicate 64 ok ++ sent 1 Pending ∷ nothing ∷ []
-unfolding in_word
+unfolding in_word new_id
 a_signal_that_every_thread_blocks_is_not_taken = refl
 
 -- and it waits for the group
 a_signal_that_every_thread_blocks_waits : shared (left one leaving_none) ≡ 12 ∷ []
-unfolding in_word
+unfolding in_word new_id
 a_signal_that_every_thread_blocks_waits = refl
 
 abbrev sixty_four : List ℕ → Table
@@ -936,7 +937,7 @@ cloning_traced = seize with_clone ∷ clone ∷ wait ∷ message ∷ by 11 (even
 
 -- a clone of a seized tracee is seized too, and traps; the parent tells its id
 a_clone_of_a_tracee_is_traced : answers one cloning_traced ≡ ok ∷ cloned 11 ∷ waited 10 0x3057f 1 ∷ told 11 ∷ ok ∷ waited 11 0x80057f 2 ∷ []
-unfolding in_word
+unfolding in_word new_id
 a_clone_of_a_tracee_is_traced = refl
 
 -- execve(2)

@@ -63,7 +63,7 @@ or_from_2 T None = or_none (least_new T 4194302 2)
     or_none None = 0
     or_none (Some id) = id
 
-abbrev pub new_id : Table → ℕ → ℕ
+unfoldable pub new_id : Table → ℕ → ℕ
 new_id T g = or_from_2 T (least_new T (4194303 - g) (g + 1))
 
 abbrev pub clone_choice : Table → Option Thread → Choice

@@ -24,13 +24,16 @@ from_2 T (Some id) e = rw (sym e) refl
 from_2 T None e = rw (sym e) refl
 
 pub found_above : (T : Table) (g id : ℕ) → Some id ≡ least_new T (4194303 - g) (g + 1) → id ≡ new_id T g
+unfolding new_id
 found_above T g id e = ap (or_from_2 T) e
 
 pub none_above : (T : Table) (g : ℕ) → None ≡ least_new T (4194303 - g) (g + 1) → or_from_2 T None ≡ new_id T g
+unfolding new_id
 none_above T g e = ap (or_from_2 T) e
 
 -- the ids of a table are those of its threads and groups
 pub same_new_id : (T : Table) (g : ℕ) → new_id (ids_table T.threads T.groups) g ≡ new_id T g
+unfolding new_id
 same_new_id T g = go (4194303 - g) (g + 1)
   where
     tries : (k id : ℕ) → least_new (ids_table T.threads T.groups) k id ≡ least_new T k id

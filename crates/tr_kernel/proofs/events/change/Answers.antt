@@ -1,13 +1,13 @@
 use Rattle.std.proofs.Common.{◌≡◌, Ok, sym, subst, refl}
+use Rattle.std.specs.Prelude.{IfOk}
 use Rattle.tr_model.specs.declared.checked.Checked.TheVariants.{Due}
 use Rattle.tr_model.specs.declared.events.Choice.{Choice}
 use Rattle.tr_model.specs.declared.events.Event.{Event}
-use Rattle.tr_model.specs.declared.events.Event.TheVariants.{Take, Tgkill}
+use Rattle.tr_model.specs.declared.events.Event.TheVariants.{CloneThread, StarterWait, Take, TakeAny, Tgkill, Wait}
 use Rattle.tr_model.specs.Preferred.{check}
-use Rattle.std.specs.Prelude.{IfOk}
-use Rattle.tr_model.specs.Steps.{after}
+use Rattle.tr_model.specs.Steps.{after, gives_id, gives_report, takes_by}
 use Rattle.tr_signals.specs.Makes.{Makes}
-use Rattle.tr_kernel.proofs.Checks.{dues, take_numbered}
+use Rattle.tr_kernel.proofs.Checks.{clone_numbered, dues, same_id, same_report, same_take_by, starter_numbered, take_any_numbered, take_numbered, wait_numbered}
 use Rattle.tr_kernel.proofs.events.change.Goals as goal
 
 pub unwrap-requires : goal.unwrap-requires
@@ -25,3 +25,123 @@ returns-in-Tgkill-clause-made c =
     let d = dues c.args.table.now.table c.args.actor e c.args.choice.now h in
     let made : Event → Choice → Type 0 = λ x y. IfOk c.tgkill.result (λ m. Makes m c.tgkill.new.table.table (after c.args.table.now.table (record { actor = c.args.actor; event = x; choice = y }))) in
     subst (λ x. made x c.args.choice.now) (sym c.in-Tgkill.is) (subst (made e) (sym d.preferred) c.tgkill.ensures.did)
+
+pub unwrap-requires-in-TakeAny : goal.unwrap-requires-in-TakeAny
+unwrap-requires-in-TakeAny c =
+    let T = c.args.table.now.table in
+    let h = subst (λ (e : Event). check T c.args.actor e ≡ Ok (Due c.args.choice.now)) c.in-TakeAny.is c.requires in
+    let d = dues T c.args.actor (TakeAny c.in-TakeAny.tgid) c.args.choice.now h in
+    let n = take_any_numbered T c.args.actor c.in-TakeAny.tgid c.args.choice.now d.not_quiet d.preferred in
+    rw (n.2) refl
+
+pub unwrap-requires-in-TakeAny-2 : goal.unwrap-requires-in-TakeAny-2
+unwrap-requires-in-TakeAny-2 c =
+    let T = c.args.table.now.table in
+    let h = subst (λ (e : Event). check T c.args.actor e ≡ Ok (Due c.args.choice.now)) c.in-TakeAny.is c.requires in
+    let d = dues T c.args.actor (TakeAny c.in-TakeAny.tgid) c.args.choice.now h in
+    let n = take_any_numbered T c.args.actor c.in-TakeAny.tgid c.args.choice.now d.not_quiet d.preferred in
+    rw (n.2) refl
+
+pub take_any-requires : goal.take_any-requires
+take_any-requires c =
+    let T = c.args.table.now.table in
+    let h = subst (λ (e : Event). check T c.args.actor e ≡ Ok (Due c.args.choice.now)) c.in-TakeAny.is c.requires in
+    let d = dues T c.args.actor (TakeAny c.in-TakeAny.tgid) c.args.choice.now h in
+    let n = take_any_numbered T c.args.actor c.in-TakeAny.tgid c.args.choice.now d.not_quiet d.preferred in
+    let k = same_take_by c.args.choice.now n.0 n.1 c.unwrap-in-TakeAny.result c.unwrap-in-TakeAny-2.result n.2 c.unwrap-in-TakeAny.ensures c.unwrap-in-TakeAny-2.ensures in
+    record { due = subst (λ (y : Choice). check T c.args.actor (TakeAny c.in-TakeAny.tgid) ≡ Ok (Due y)) k h }
+
+pub returns-in-TakeAny-clause-made : goal.returns-in-TakeAny-clause-made
+returns-in-TakeAny-clause-made c =
+    let T = c.args.table.now.table in
+    let h = subst (λ (e : Event). check T c.args.actor e ≡ Ok (Due c.args.choice.now)) c.in-TakeAny.is c.requires in
+    let d = dues T c.args.actor (TakeAny c.in-TakeAny.tgid) c.args.choice.now h in
+    let n = take_any_numbered T c.args.actor c.in-TakeAny.tgid c.args.choice.now d.not_quiet d.preferred in
+    let k = same_take_by c.args.choice.now n.0 n.1 c.unwrap-in-TakeAny.result c.unwrap-in-TakeAny-2.result n.2 c.unwrap-in-TakeAny.ensures c.unwrap-in-TakeAny-2.ensures in
+    let e : Event = TakeAny c.in-TakeAny.tgid in
+    let made : Event → Choice → Type 0 = λ x y. IfOk c.take_any.result (λ m. Makes m c.take_any.new.table.table (after T (record { actor = c.args.actor; event = x; choice = y }))) in
+    subst (λ x. made x c.args.choice.now) (sym c.in-TakeAny.is) (subst (made e) (sym k) c.take_any.ensures.did)
+
+pub unwrap-requires-in-CloneThread : goal.unwrap-requires-in-CloneThread
+unwrap-requires-in-CloneThread c =
+    let T = c.args.table.now.table in
+    let h = subst (λ (e : Event). check T c.args.actor e ≡ Ok (Due c.args.choice.now)) c.in-CloneThread.is c.requires in
+    let d = dues T c.args.actor (CloneThread c.in-CloneThread.tid) c.args.choice.now h in
+    let n = clone_numbered T c.args.actor c.in-CloneThread.tid c.args.choice.now d.no_cause d.preferred in
+    rw (n.1) refl
+
+pub clone_thread-requires : goal.clone_thread-requires
+clone_thread-requires c =
+    let T = c.args.table.now.table in
+    let h = subst (λ (e : Event). check T c.args.actor e ≡ Ok (Due c.args.choice.now)) c.in-CloneThread.is c.requires in
+    let d = dues T c.args.actor (CloneThread c.in-CloneThread.tid) c.args.choice.now h in
+    let n = clone_numbered T c.args.actor c.in-CloneThread.tid c.args.choice.now d.no_cause d.preferred in
+    let k = same_id c.args.choice.now n.0 c.unwrap-in-CloneThread.result n.1 c.unwrap-in-CloneThread.ensures in
+    record { due = subst (λ (y : Choice). check T c.args.actor (CloneThread c.in-CloneThread.tid) ≡ Ok (Due y)) k h }
+
+pub returns-in-CloneThread-clause-made : goal.returns-in-CloneThread-clause-made
+returns-in-CloneThread-clause-made c =
+    let T = c.args.table.now.table in
+    let h = subst (λ (e : Event). check T c.args.actor e ≡ Ok (Due c.args.choice.now)) c.in-CloneThread.is c.requires in
+    let d = dues T c.args.actor (CloneThread c.in-CloneThread.tid) c.args.choice.now h in
+    let n = clone_numbered T c.args.actor c.in-CloneThread.tid c.args.choice.now d.no_cause d.preferred in
+    let k = same_id c.args.choice.now n.0 c.unwrap-in-CloneThread.result n.1 c.unwrap-in-CloneThread.ensures in
+    let e : Event = CloneThread c.in-CloneThread.tid in
+    let made : Event → Choice → Type 0 = λ x y. IfOk c.clone_thread.result (λ m. Makes m c.clone_thread.new.table.table (after T (record { actor = c.args.actor; event = x; choice = y }))) in
+    subst (λ x. made x c.args.choice.now) (sym c.in-CloneThread.is) (subst (made e) (sym k) c.clone_thread.ensures.did)
+
+pub unwrap-requires-in-Wait : goal.unwrap-requires-in-Wait
+unwrap-requires-in-Wait c =
+    let T = c.args.table.now.table in
+    let h = subst (λ (e : Event). check T c.args.actor e ≡ Ok (Due c.args.choice.now)) c.in-Wait.is c.requires in
+    let d = dues T c.args.actor (Wait c.in-Wait.which) c.args.choice.now h in
+    let n = wait_numbered T c.args.actor c.in-Wait.which c.args.choice.now d.not_quiet d.preferred in
+    rw (n.1) refl
+
+pub wait-requires : goal.wait-requires
+wait-requires c =
+    let T = c.args.table.now.table in
+    let h = subst (λ (e : Event). check T c.args.actor e ≡ Ok (Due c.args.choice.now)) c.in-Wait.is c.requires in
+    let d = dues T c.args.actor (Wait c.in-Wait.which) c.args.choice.now h in
+    let n = wait_numbered T c.args.actor c.in-Wait.which c.args.choice.now d.not_quiet d.preferred in
+    let k = same_report c.args.choice.now n.0 c.unwrap-in-Wait.result n.1 c.unwrap-in-Wait.ensures in
+    record { due = subst (λ (y : Choice). check T c.args.actor (Wait c.in-Wait.which) ≡ Ok (Due y)) k h }
+
+pub returns-in-Wait-clause-made : goal.returns-in-Wait-clause-made
+returns-in-Wait-clause-made c =
+    let T = c.args.table.now.table in
+    let h = subst (λ (e : Event). check T c.args.actor e ≡ Ok (Due c.args.choice.now)) c.in-Wait.is c.requires in
+    let d = dues T c.args.actor (Wait c.in-Wait.which) c.args.choice.now h in
+    let n = wait_numbered T c.args.actor c.in-Wait.which c.args.choice.now d.not_quiet d.preferred in
+    let k = same_report c.args.choice.now n.0 c.unwrap-in-Wait.result n.1 c.unwrap-in-Wait.ensures in
+    let e : Event = Wait c.in-Wait.which in
+    let made : Event → Choice → Type 0 = λ x y. IfOk c.wait.result (λ m. Makes m c.wait.new.table.table (after T (record { actor = c.args.actor; event = x; choice = y }))) in
+    subst (λ x. made x c.args.choice.now) (sym c.in-Wait.is) (subst (made e) (sym k) c.wait.ensures.did)
+
+pub unwrap-requires-in-StarterWait : goal.unwrap-requires-in-StarterWait
+unwrap-requires-in-StarterWait c =
+    let T = c.args.table.now.table in
+    let h = subst (λ (e : Event). check T c.args.actor e ≡ Ok (Due c.args.choice.now)) c.in-StarterWait.is c.requires in
+    let d = dues T c.args.actor (StarterWait c.in-StarterWait.which c.in-StarterWait.flags) c.args.choice.now h in
+    let n = starter_numbered T c.args.actor c.in-StarterWait.which c.in-StarterWait.flags c.args.choice.now d.not_quiet d.preferred in
+    rw (n.1) refl
+
+pub starter_wait-requires : goal.starter_wait-requires
+starter_wait-requires c =
+    let T = c.args.table.now.table in
+    let h = subst (λ (e : Event). check T c.args.actor e ≡ Ok (Due c.args.choice.now)) c.in-StarterWait.is c.requires in
+    let d = dues T c.args.actor (StarterWait c.in-StarterWait.which c.in-StarterWait.flags) c.args.choice.now h in
+    let n = starter_numbered T c.args.actor c.in-StarterWait.which c.in-StarterWait.flags c.args.choice.now d.not_quiet d.preferred in
+    let k = same_report c.args.choice.now n.0 c.unwrap-in-StarterWait.result n.1 c.unwrap-in-StarterWait.ensures in
+    record { due = subst (λ (y : Choice). check T c.args.actor (StarterWait c.in-StarterWait.which c.in-StarterWait.flags) ≡ Ok (Due y)) k h }
+
+pub returns-in-StarterWait-clause-made : goal.returns-in-StarterWait-clause-made
+returns-in-StarterWait-clause-made c =
+    let T = c.args.table.now.table in
+    let h = subst (λ (e : Event). check T c.args.actor e ≡ Ok (Due c.args.choice.now)) c.in-StarterWait.is c.requires in
+    let d = dues T c.args.actor (StarterWait c.in-StarterWait.which c.in-StarterWait.flags) c.args.choice.now h in
+    let n = starter_numbered T c.args.actor c.in-StarterWait.which c.in-StarterWait.flags c.args.choice.now d.not_quiet d.preferred in
+    let k = same_report c.args.choice.now n.0 c.unwrap-in-StarterWait.result n.1 c.unwrap-in-StarterWait.ensures in
+    let e : Event = StarterWait c.in-StarterWait.which c.in-StarterWait.flags in
+    let made : Event → Choice → Type 0 = λ x y. IfOk c.starter_wait.result (λ m. Makes m c.starter_wait.new.table.table (after T (record { actor = c.args.actor; event = x; choice = y }))) in
+    subst (λ x. made x c.args.choice.now) (sym c.in-StarterWait.is) (subst (made e) (sym k) c.starter_wait.ensures.did)
