@@ -68,12 +68,7 @@ fn set_at(table: &mut Table, log: &mut Log, tid: u32, signal: Signal, how: Actio
 
 /// Whether a thread's setting of an action is refused or due: ESRCH, NotRunning and Busy as for each operation of a
 /// thread's own, then EINVAL for KILL, STOP and what is no signal.
-pub fn check_set_action(
-    table: &Table,
-    tid: u32,
-    sig: u8,
-    how: Action,
-) -> Result<Checked, Refusal>
+pub fn check_set_action(table: &Table, tid: u32, sig: u8, how: Action) -> Result<Checked, Refusal>
     ensures { (actor : ℕ) → result ≡ check table.now.table actor (SetAction tid sig how) }
 {
     let Some(thread) = table.find(tid) else {

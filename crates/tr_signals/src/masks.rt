@@ -67,7 +67,12 @@ pub fn check_script(table: &Table, tid: u32) -> Result<Checked, Refusal>
 
 /// An entry that changes the record of one thread. Where memory is refused, or the numbers are used up, nothing has
 /// changed.
-pub fn change_own(table: &mut Table, alloc: Global, tid: u32, change: &Own) -> Result<Made, AllocError>
+pub fn change_own(
+    table: &mut Table,
+    alloc: Global,
+    tid: u32,
+    change: &Own,
+) -> Result<Made, AllocError>
     ensures did { IfOk result (λ m. Makes m table.new.table (own_outcome tid change.now table.old.table)) }
     ensures taken_from { IfOk result (λ m. m.taken_from ≡ None) }
     ensures err { OnErr result (table.new.table ≡ table.old.table) }

@@ -5,7 +5,7 @@ use Rattle.tr_model.specs.declared.events.Choice.{Choice}
 use Rattle.tr_model.specs.declared.events.Event.{Event}
 use Rattle.tr_model.specs.declared.events.Event.TheVariants.{CloneThread, StarterWait, Take, TakeAny, Tgkill, Wait}
 use Rattle.tr_model.specs.Preferred.{check}
-use Rattle.tr_model.specs.Steps.{after, gives_id, gives_report, takes_by}
+use Rattle.tr_model.specs.Steps.{after}
 use Rattle.tr_signals.specs.Makes.{Makes}
 use Rattle.tr_kernel.proofs.Checks.{clone_numbered, dues, same_id, same_report, same_take_by, starter_numbered, take_any_numbered, take_numbered, wait_numbered}
 use Rattle.tr_kernel.proofs.events.change.Goals as goal

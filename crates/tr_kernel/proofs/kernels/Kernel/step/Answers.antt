@@ -1,9 +1,9 @@
-use Rattle.std.proofs.Common.{◌≡◌, inl, Ok, Err, refl, sym, ap, ◌∙◌, subst}
-use Rattle.tr_model.specs.declared.checked.Checked.TheVariants.{Quiet}
+use Rattle.std.proofs.Common.{◌≡◌, ◌<◌, arith, length, inl, Ok, Err, refl, sym, ap, ◌∙◌, subst}
+use Rattle.tr_model.specs.declared.checked.Checked.TheVariants.{Due, Quiet}
 use Rattle.tr_model.specs.Preferred.{check}
 use Rattle.tr_kernel.specs.States.{State}
 use Rattle.tr_kernel.proofs.Checks.{quiets}
-use Rattle.tr_kernel.proofs.Refusals.{only_cause, refusal}
+use Rattle.tr_kernel.proofs.Refusals.{only_cause, refusal, want_of_memory}
 use Rattle.tr_kernel.proofs.kernels.Kernel.step.Goals as goal
 
 pub returns-in-Err-clause-err : goal.returns-in-Err-clause-err
@@ -21,3 +21,9 @@ returns-in-Ok-Quiet-clause-ok c =
     let q = quiets c.args.self.now.table c.args.actor c.args.event c.in-Ok-Quiet.reply
     (subst (λ (k : State). check k.table c.args.actor c.args.event ≡ Ok (Quiet c.in-Ok-Quiet.reply)) c.self.view_is (sym c.in-Ok-Quiet.ensures ∙ ap (λ x. Ok x) c.in-Ok-Quiet.field-0-is)) in
     inl (record { no_cause = q.0; quiet = q.1; same = refl })
+
+pub returns-else-len-entries-clause-err : goal.returns-else-len-entries-clause-err
+returns-else-len-entries-clause-err c =
+    let h = subst (λ (k : State). check k.table c.args.actor c.args.event ≡ Ok (Due c.in-Ok-Due.choice)) c.self.view_is (sym c.in-Ok-Due.ensures ∙ ap (λ x. Ok x) c.in-Ok-Due.field-0-is) in
+    let f : length c.self.inside.journal.items < c.self.inside.table.table.entries = let a = c.len.ensures in let b = c.entries.ensures in let x = c.if-len-entries.false in omega arith in
+    want_of_memory c.enter.result c.args.self.now c.args.actor c.args.event c.in-Ok-Due.choice h (subst (λ (k : State). length k.journal < k.table.entries) c.self.view_is f) c.enter.ensures.err
