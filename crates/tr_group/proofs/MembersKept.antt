@@ -1,5 +1,5 @@
 -- A change of a group's threads, one after the other, and what they hold.
-use Rattle.std.proofs.Common.{◌≡◌, ℕ, zero, suc, ◌+◌, ◌<◌, ◌≤◌, List, [], ◌∷◌, ◌++◌, length, Some, Bool, true, false, if◌then◌else◌, ◌==◌, map, refl, ap, sym, ◌∙◌, arith, add-one, length-append, append_assoc}
+use Rattle.std.proofs.Common.{◌≡◌, ℕ, zero, suc, ◌+◌, ◌<◌, ◌≤◌, List, [], ◌∷◌, ◌++◌, length, Option, Some, Bool, true, false, if◌then◌else◌, ◌==◌, map, refl, ap, sym, ◌∙◌, arith, add-one, length-append, append_assoc}
 use Rattle.tr_tracee.specs.declared.thread.Thread.{Thread}
 use Rattle.tr_tracee.specs.Lives.{held, is_dead}
 use Rattle.tr_tracee.specs.Threads.{throughout}
@@ -56,6 +56,23 @@ applied_group change.Mark t = refl
 applied_group (change.Continue in_effect) t = choose in_effect t _ _ refl refl
 applied_group change.NoteCont t = refl
 applied_group (change.Leave kill end) t = choose (is_dead t.life) t _ _ refl refl
+
+choose_id : (b : Bool) (t u v : Thread) → u.id ≡ t.id → v.id ≡ t.id → (if b then u else v).id ≡ t.id
+choose_id true t u v p q = p
+choose_id false t u v p q = q
+
+pub applied_id : (c : Change) (t : Thread) → (applied c t).id ≡ t.id
+applied_id change.Mark t = refl
+applied_id (change.Continue in_effect) t = choose_id in_effect t _ _ refl refl
+applied_id change.NoteCont t = refl
+applied_id (change.Leave kill end) t = choose_id (is_dead t.life) t _ _ refl refl
+
+-- what is made of the thread at a place has its id and its group
+pub same_thread : (c : Change) (t x y : Thread) (o : Option Thread) → Some x ≡ o → y ≡ applied c x → o ≡ Some t → (t.id ≡ y.id) × (t.group ≡ y.group)
+same_thread c t x y o e f h =
+    let q : Some x ≡ Some t = e ∙ h in
+    let p : x ≡ t = cc in
+    (ap (λ z. z.id) (sym p) ∙ (sym (applied_id c x) ∙ ap (λ z. z.id) (sym f)), ap (λ z. z.group) (sym p) ∙ (sym (applied_group c x) ∙ ap (λ z. z.group) (sym f)))
 
 -- in a loop: us is the list so far
 

@@ -22,9 +22,10 @@ pub trait Members {
         requires { i < count_in tgid (threads self.now) }
         ensures { Some result ≡ member tgid i (threads self.now) };
 
-    /// Puts a record at that place.
+    /// Writes the record of the thread at that place. Its id and its group stay.
     fn put(&mut self, tgid: u32, i: usize, thread: Thread)
-        requires { i < count_in tgid (threads self.old) }
+        requires place { i < count_in tgid (threads self.old) }
+        requires same { (t : Thread) → member tgid i (threads self.old) ≡ Some t → (t.id ≡ thread.id) × (t.group ≡ thread.group) }
         ensures { threads self.new ≡ put_member tgid i thread (threads self.old) };
 }
 

@@ -5,8 +5,6 @@ use Rattle.std.specs.Str.{is_utf8}
 use Rattle.serde_json.specs.Data.{Data, Items, no_items, item}
 use Rattle.serde_json.specs.Find.{as_array, get}
 use Rattle.serde_json.specs.Read.{read}
-use Rattle.tr_model.specs.declared.events.Event.{Event}
-use Rattle.tr_model.specs.Preferred.{is_served}
 use Rattle.tr_table.specs.declared.starts.Start.{Start}
 use Rattle.tr_table.specs.Starts.{ids_started, is_good, no_repeat}
 use Rattle.tr_scenario.specs.declared.faults.ScenarioFault.{ScenarioFault}
@@ -27,16 +25,11 @@ times_in (Some v) = number_in 1 100000 v
 unfoldable pub times_of : Data → Result ℕ ScenarioFault
 times_of d = times_in (get (codes "times") d)
 
--- the name of an event that no kernel serves so far is no name
-abbrev pub served : Event → Result Event ScenarioFault
-served e = if is_served e then Ok e else Err BadField
-
 unfoldable pub step_of : Data → Result Step ScenarioFault
 step_of d = do
   actor ← number_at (codes "actor") 1 (2 ^ 32 - 1) d
   kind ← kind_at (codes "do") d
-  any ← event_of kind d
-  event ← served any
+  event ← event_of kind d
   times ← times_of d
   _ ← no_key_but (codes "actor" ∷ codes "do" ∷ codes "times" ∷ fields_of kind) d
   Ok (record { actor = actor; event = event; times = times })

@@ -13,7 +13,6 @@ mod readers;
 mod reading;
 mod replies;
 mod runs;
-mod served;
 mod source;
 mod steps;
 mod writers;

@@ -15,6 +15,7 @@ use crate::log::{Made, NO_CHOICE};
 use crate::masks::best_for;
 use crate::takes::take_due;
 use std::alloc::{AllocError, Global};
+use tr_group::Members;
 use tr_lanes::first_ready;
 use tr_model::{Checked, Choice, Refusal, Reply};
 use tr_pending::Instance;

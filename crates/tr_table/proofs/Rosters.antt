@@ -1,11 +1,11 @@
 -- No two threads of a table get one id, and no group more than 64 threads.
-use Rattle.std.proofs.Common.{◌≡◌, ◌==◌, ◌&&◌, ◌+◌, ◌<◌, ◌≤◌, ◌∙◌, ◌⊎◌, inl, inr, ℕ, suc, List, [], ◌∷◌, ◌++◌, Bool, true, false, if◌then◌else◌, Some, None, Result, Ok, Err, filter, length, map, cond, arith, refl, sym, ap, subst}
+use Rattle.std.proofs.Common.{◌≡◌, ◌==◌, ◌&&◌, ◌+◌, ◌<◌, ◌≤◌, ◌∙◌, ◌⊎◌, inl, inr, ℕ, suc, zero, List, [], ◌∷◌, ◌++◌, Bool, true, false, if◌then◌else◌, Some, None, Result, Ok, Err, filter, length, map, cond, arith, refl, sym, ap, subst}
 use Rattle.std.specs.Prelude.{OnErr, OnOk}
 use Rattle.std.proofs.lemmas.Bool.{and_parts, cases_eq, eq-eqb, eqb-true, ne_eqb}
 use Rattle.tr_tracee.specs.declared.thread.Thread.{Thread}
 use Rattle.tr_tracee.specs.Lives.{is_dead}
 use Rattle.tr_tracee.specs.Threads.{in_group}
-use Rattle.tr_group.specs.Members.{count_in}
+use Rattle.tr_group.specs.Members.{at_place, count_in, member, put_member, put_place}
 use Rattle.tr_model.specs.Journals.{ids_of, occurs}
 use Rattle.tr_model.specs.Moves.{changed, dropped, in_place, renamed}
 use Rattle.tr_model.specs.Tables.{thread_in}
@@ -196,3 +196,22 @@ module _ (t : Thread) where
 pub roster_grown : {A B : Type 0} (r : Result A B) (t : Thread) (ts us : List Thread) → OnOk r (us ≡ ts ++ t ∷ []) → OnErr r (us ≡ ts) → thread_in ts t.id ≡ None → length (filter (in_group t.group) ts) < 64 → IsRoster ts → IsRoster us
 roster_grown (Ok a) t ts us e f new room h = subst IsRoster (sym e) (roster_added t ts new room h)
 roster_grown (Err b) t ts us e f new room h = subst IsRoster (sym f) h
+
+-- where the record at a place of a group is written
+
+total_put : (m : Thread → ℕ) (g i : ℕ) (x : Thread) (ts : List Thread) → ((t : Thread) → member g i ts ≡ Some t → m x ≡ m t) → total m (put_member g i x ts) ≡ total m ts
+total_put m g i x [] s = refl
+total_put m g i x (t ∷ ts) s = go i (t.group == g) s (λ j. total_put m g j x ts)
+  where
+    go : (i : ℕ) (b : Bool) → ((u : Thread) → (if b then at_place i t (λ j. member g j ts) else member g i ts) ≡ Some u → m x ≡ m u)
+        → ((j : ℕ) → ((u : Thread) → member g j ts ≡ Some u → m x ≡ m u) → total m (put_member g j x ts) ≡ total m ts)
+        → total m (if b then put_place i x t ts (λ j. put_member g j x ts) else t ∷ put_member g i x ts) ≡ m t + total m ts
+    go zero true k r = omega (arith, k t refl)
+    go (suc i) true k r = omega (arith, r i k)
+    go i false k r = omega (arith, r i k)
+
+pub roster_put : (g i : ℕ) (x : Thread) (ts : List Thread) → ((t : Thread) → member g i ts ≡ Some t → (t.id ≡ x.id) × (t.group ≡ x.group)) → IsRoster ts → IsRoster (put_member g i x ts)
+roster_put g i x ts s h =
+    by_totals (put_member g i x ts)
+    (λ n. omega (arith, total_put (has_id n) g i x ts (λ t e. ap (λ (k : ℕ). one (k == n)) (sym (s t e).0)), one_at_most n ts h))
+    (λ k. omega (arith, total_put (is_of k) g i x ts (λ t e. ap (λ (j : ℕ). one (j == k)) (sym (s t e).1)), few_at_most k ts h))

@@ -3,7 +3,7 @@ use std::alloc::{AllocError, Global};
 use std::fmt::Debug;
 use std::process::Abort;
 use std::test::Fail;
-use tr_group::Action;
+use tr_group::{Action, Members};
 use tr_model::{Ending, Fate, Target};
 use tr_pending::{Info, Instance, Put};
 use tr_sigset::{SigSet, Signal};
