@@ -8,7 +8,7 @@ use Rattle.serde_json.specs.Read.{read}
 use Rattle.tr_table.specs.declared.starts.Start.{Start}
 use Rattle.tr_table.specs.Starts.{ids_started, is_good, no_repeat}
 use Rattle.tr_scenario.specs.declared.faults.ScenarioFault.{ScenarioFault}
-use Rattle.tr_scenario.specs.declared.faults.ScenarioFault.TheVariants.{BadField, BadStart, NotJson, Repeated, TooLarge}
+use Rattle.tr_scenario.specs.declared.faults.ScenarioFault.TheVariants.{BadStart, NotJson, Repeated, TooLarge}
 use Rattle.tr_scenario.specs.declared.steps.Scenario.{Scenario}
 use Rattle.tr_scenario.specs.declared.steps.Step.{Step}
 use Rattle.tr_scenario.specs.Events.{event_of}

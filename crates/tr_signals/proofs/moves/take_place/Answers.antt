@@ -1,8 +1,8 @@
-use Rattle.std.proofs.Common.{◌≡◌, ◌∙◌, ◌≤◌, Some, ap, arith, length, map, sym, true}
+use Rattle.std.proofs.Common.{◌≡◌, ◌∙◌, Some, ap, arith, length, map, sym, true}
 use Rattle.std.proofs.lemmas.List.{length-map}
 use Rattle.std.specs.Prelude.{option_copied}
 use Rattle.tr_tracee.specs.Lives.{is_execing}
-use Rattle.tr_model.specs.Moves.{at, begin, dropped, in_place, on_thread, placed, reaimed}
+use Rattle.tr_model.specs.Moves.{begin, dropped, in_place, on_thread, placed, reaimed}
 use Rattle.tr_model.specs.Tables.{thread_of}
 use Rattle.tr_table.specs.Held.{helds}
 use Rattle.tr_signals.proofs.Rooms.{helds_dropped, helds_in_place}

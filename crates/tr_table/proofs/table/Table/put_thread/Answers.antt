@@ -10,5 +10,6 @@ invariant_of-self c =
     let e = ap (λ v. thread_in v.table.threads x.id) c.self.view_is in
     rw c.replace.ensures (record {
       roster = roster_changed x.id (λ _. x) _ (λ t f. record { id = sym (found_id _ x.id t f); group = sym (c.requires.same_group t (sym e ∙ f)) }) c.self.invariant.roster;
-      few = c.self.invariant.few; ordered = c.self.invariant.ordered;
+      few = c.self.invariant.few;
+      ordered = c.self.invariant.ordered;
     })

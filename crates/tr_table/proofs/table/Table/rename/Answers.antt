@@ -12,5 +12,6 @@ invariant_of-self c =
     let there : thread_in c.self.inside.threads c.args.id ≡ Some t = ap (λ ts. thread_in ts c.args.id) (sym c.as_slice.ensures) ∙ (sym c.find_thread.ensures ∙ ap option_copied c.in-Some.is) in
     rw (c.reaim.ensures.items, c.take_place.ensures) (record {
       roster = roster_placed t _ (itself _ c.args.id t there) c.self.invariant.roster;
-      few = c.self.invariant.few; ordered = ordered_reaimed _ _ _ _ c.self.invariant.ordered;
+      few = c.self.invariant.few;
+      ordered = ordered_reaimed _ _ _ _ c.self.invariant.ordered;
     })
