@@ -34,7 +34,7 @@ pub(super) type Case = (State, &'static [Call]);
 
 const ATTACH: Call = (900, Event::Attach { tid: 10 });
 
-const SEIZE: Call = (
+pub(super) const SEIZE: Call = (
     900,
     Event::Seize {
         tid: 10,

@@ -1,5 +1,6 @@
 use super::stops::{
-    State, TRACED, after, all_die, held, is_in, some_in_stop, some_traced, starter_word,
+    DIE, EXIT, SEIZE, State, TRACED, after, all_die, held, is_in, some_in_stop, some_traced,
+    starter_word,
 };
 use super::{has_fate, same};
 use crate::Kernel;
@@ -46,5 +47,13 @@ fn end_of_a_tracer_with_exitkill_kills_its_tracees(rt: HostRuntime) -> Result<()
         is_in(&rt, &kernel, case.0);
         is_killed(&rt, &mut kernel);
     }
+    Ok(())
+}
+
+#[test]
+fn end_of_a_tracer_leaves_a_death_to_the_starter(rt: HostRuntime) -> Result<(), Fail> {
+    let mut kernel = after(&rt, &[SEIZE, EXIT, DIE], false)?;
+    is_left(&rt, &mut kernel, Fate::Delivered);
+    same(&rt, &starter_word(&mut kernel), &Some(0x300));
     Ok(())
 }
