@@ -1,3 +1,7 @@
+mod kills;
+mod stops;
+mod tracer_ends;
+
 use super::*;
 use std::fmt::Debug;
 use std::process::Abort;
@@ -184,10 +188,14 @@ fn full_journal_takes_no_entry(rt: HostRuntime) -> Result<(), Fail> {
 }
 
 #[test]
-fn unserved_event_is_outside_the_model(rt: HostRuntime) -> Result<(), Fail> {
+fn event_message_of_a_signal_delivery_stop_is_outside_the_model(
+    rt: HostRuntime,
+) -> Result<(), Fail> {
     let mut kernel = kernel(&rt, 100)?;
-    let attach = Event::Attach { tid: 10 };
-    answers(&rt, &mut kernel, 900, &attach, &Err(Refusal::Unmodelled));
+    let message = Event::EventMessage { tid: 10 };
+    let _attached = kernel.step(900, Event::Attach { tid: 10 });
+    let _taken = kernel.step(10, TAKE);
+    answers(&rt, &mut kernel, 900, &message, &Err(Refusal::Unmodelled));
     Ok(())
 }
 
