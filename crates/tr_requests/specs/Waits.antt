@@ -31,7 +31,7 @@ abbrev pub giving : Option ℕ → Checked
 giving None = Quiet Nothing
 giving (Some r) = Due (gives_report r)
 
--- a tracer's wait for a death: the dead thread goes, but a leader's death is then reported to the starter
+-- a tracer that knows of a death: the dead thread goes, but a leader's death is then reported to the starter
 abbrev pub consume_death : Thread → Work → Work
 consume_death t w = if is_leader t then pass_on t t.report w else remove_thread t w
 

@@ -13,10 +13,10 @@ ghost use Rattle.tr_tracee.specs.Lives.{held, is_dead};
 ghost use Rattle.tr_tracee.specs.Threads.{is_tracee_of, options_of};
 ghost use Rattle.tr_signals.specs.Makes.{Makes};
 ghost use Rattle.tr_signals.specs.Shows.{Room, Shows};
-ghost use Rattle.tr_requests.specs.Tracers.{is_to_kill, leave_dead, tracees_among, to_kill_among};
+ghost use Rattle.tr_requests.specs.Tracers.{is_to_kill, tracees_among, to_kill_among};
 
-use crate::deaths::{pass_on, remove_thread};
 use crate::restarts::detach_thread;
+use crate::waits::consume_death;
 use std::alloc::{AllocError, Global};
 use tr_model::{Checked, Refusal, Reply};
 use tr_signals::Made;
@@ -104,20 +104,6 @@ fn leave_living(table: &mut Table, log: &mut Log, thread: &Thread)
     detach_thread(table, log, thread, signal);
 }
 
-/// A dead thread is gone, but a leader stays for the starter.
-fn leave_dead(table: &mut Table, log: &Log, thread: &Thread)
-    requires { Room table.old log.now 1 }
-    ensures shows { (l : Log) (w : Work) → Shows table.old l w → Shows table.new l (leave_dead thread.now w) }
-    ensures room { (l : Log) (n : ℕ) → Room table.old l (n + 1) → Room table.new l n }
-    ensures fewer { length (tgids table.new.table) ≤ length (tgids table.old.table) }
-{
-    if thread.is_leader() {
-        pass_on(table, log, thread);
-    } else {
-        remove_thread(table, thread);
-    }
-}
-
 fn leave(table: &mut Table, log: &mut Log, thread: &Thread)
     requires room { Room table.old log.old 3 }
     requires there { thread_of table.old.table thread.now.id ≡ Some thread.now }
@@ -126,7 +112,7 @@ fn leave(table: &mut Table, log: &mut Log, thread: &Thread)
     ensures fewer { length (tgids table.new.table) ≤ length (tgids table.old.table) }
 {
     if thread.life.is_dead() {
-        leave_dead(table, log, thread);
+        consume_death(table, log, thread);
     } else {
         leave_living(table, log, thread);
     }

@@ -147,7 +147,8 @@ fn waited_thread(thread: &Option<Thread>, group: &Option<Group>) -> Reply
     }
 }
 
-fn consume_death(table: &mut Table, log: &Log, thread: &Thread)
+/// A dead thread goes, but a leader stays, and its death passes to the starter.
+pub(crate) fn consume_death(table: &mut Table, log: &Log, thread: &Thread)
     requires { Room table.old log.now 1 }
     ensures shows { (l : Log) (w : Work) → Shows table.old l w → Shows table.new l (consume_death thread.now w) }
     ensures room { (l : Log) (n : ℕ) → Room table.old l (n + 1) → Room table.new l n }
