@@ -6,7 +6,6 @@ ghost use Rattle.tracebox.specs.Asks.{is_numeral, numeral_value};
 
 /// The number of one to eight hexadecimal digits of either case. `None` for any other text, also for one with a prefix
 /// or a sign.
-
 pub(crate) fn numeral(text: &str) -> Option<u32>
     ensures { result ≡ numeral_value text.now }
 {
