@@ -199,7 +199,7 @@ fn event_message_of_a_signal_delivery_stop_is_outside_the_model(
     Ok(())
 }
 
-/// A start whose one leader is 1.
+/// A start whose one thread has the id 1; the least is 2.
 fn bad_start(rt: &HostRuntime) -> Result<Start, Fail> {
     let group = GroupStart {
         tgid: 1,
@@ -215,7 +215,7 @@ fn bad_start(rt: &HostRuntime) -> Result<Start, Fail> {
 }
 
 #[test]
-fn start_of_two_leaders_is_bad(rt: HostRuntime) -> Result<(), Fail> {
+fn start_with_an_id_below_2_is_bad(rt: HostRuntime) -> Result<(), Fail> {
     let fault = Kernel::new(rt.alloc(), bad_start(&rt)?).err();
     same(&rt, &fault, &Some(StartFault::BadStart));
     Ok(())

@@ -20,9 +20,7 @@ use Rattle.tr_model.specs.Steps.{gives_id, is_new, number}
 use Rattle.tr_model.specs.Tables.{Table, group_of, members, thread_of}
 use Rattle.tr_model.specs.Takes.{can_take}
 use Rattle.tr_table.specs.Held.{helds}
-
-refused_due : (why : Refusal) (c : Choice) → Err why ≡ Ok (Due c) → ⊥
-refused_due why c e = cc
+use Rattle.tr_requests.proofs.Restarting.{refused_due}
 
 pub record IsClone (T : Table) (tid id : ℕ) : Type 0 where
   pub thread : Thread
@@ -107,9 +105,6 @@ pub due_with_id : (T : Table) (a tid : ℕ) (t : Thread) → thread_of T tid ≡
 unfolding answer
 due_with_id T a tid t e h k =
     sym (ap (answer T) e ∙ ap (λ o. refused_or o (quiet_or None (clone_choice T (Some t)))) (first_none (script T t) (where_is (at_limit T t) Again ∷ []) h ∙ ap (λ b. first (where_is b Again ∷ [])) k))
-
-pub same_thread : (a b : Thread) → Some a ≡ Some b → a ≡ b
-same_thread a b e = cc
 
 pub none_script : (o : Option Refusal) → ((why : Refusal) → o ≡ Some why → ⊥) → o ≡ None
 none_script None h = refl

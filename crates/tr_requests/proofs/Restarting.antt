@@ -12,6 +12,7 @@ use Rattle.tr_tracee.specs.Lives.{held}
 use Rattle.tr_tracee.specs.Stops.{listening, listening_life, restarted, restarted_life}
 use Rattle.tr_model.specs.declared.fates.Fate.{Fate}
 use Rattle.tr_model.specs.declared.checked.Checked.TheVariants.{Due}
+use Rattle.tr_model.specs.declared.events.Choice.{Choice}
 use Rattle.tr_model.specs.declared.replies.Refusal.{Refusal}
 use Rattle.tr_model.specs.declared.replies.Refusal.TheVariants.{Io, Srch}
 use Rattle.tr_model.specs.Causes.{first, stopped, thread_then, unless, where_is}
@@ -24,7 +25,8 @@ use Rattle.tr_signals.proofs.Taking.{id_found}
 use Rattle.tr_requests.specs.Restarts.{restart_by, restart_checked, restart_from}
 use Rattle.tr_table.specs.Held.{helds, one}
 
-same_thread : (a b : Thread) → Some a ≡ Some b → a ≡ b
+-- a look-up has one answer
+pub same_thread : (a b : Thread) → Some a ≡ Some b → a ≡ b
 same_thread a b e = cc
 
 -- the record that is found by an id, written anew, is that record changed
@@ -113,18 +115,19 @@ restart_same o s h k t w = go o k (held t.life)
     go o k None = refl
     go o k (Some i) = by o k i
 
-refused_due : (why : Refusal) → Err why ≡ Ok (Due no_choice) → ⊥
-refused_due why e = cc
+-- what is refused isn't due
+pub refused_due : (why : Refusal) (c : Choice) → Err why ≡ Ok (Due c) → ⊥
+refused_due why c e = cc
 
 -- a restart that is due has a number up to 64
 pub due_at_most : (T : Table) (a id s : ℕ) → restart_checked T a id s ≡ Ok (Due no_choice) → s ≤ 64
 due_at_most T a id s e = go (thread_of T id) e
   where
     by : (x b : Bool) → nat_lt 64 s ≡ b → refused_or (first (unless x Srch ∷ where_is b Io ∷ [])) (quiet_or None no_choice) ≡ Ok (Due no_choice) → s ≤ 64
-    by false b f q = absurd (refused_due Srch q)
-    by true true f q = absurd (refused_due Io q)
+    by false b f q = absurd (refused_due Srch no_choice q)
+    by true true f q = absurd (refused_due Io no_choice q)
     by true false f q = ltb-false 64 s f
 
     go : (o : Option Thread) → refused_or (first (thread_then o (λ t. stopped a t ∷ where_is (nat_lt 64 s) Io ∷ []))) (quiet_or None no_choice) ≡ Ok (Due no_choice) → s ≤ 64
-    go None q = absurd (refused_due Srch q)
+    go None q = absurd (refused_due Srch no_choice q)
     go (Some t) q = by _ (nat_lt 64 s) refl q

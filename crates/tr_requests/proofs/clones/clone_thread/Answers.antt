@@ -6,8 +6,8 @@ use Rattle.tr_model.specs.Tables.{members, stop_in_effect, thread_of}
 use Rattle.tr_table.specs.Changes.{tgids}
 use Rattle.tr_signals.specs.Shows.{Shows}
 use Rattle.tr_signals.proofs.Rooms.{room_fits}
-use Rattle.tr_requests.proofs.Cloning.{is_clone, is_new_id, same_thread, spawns}
-use Rattle.tr_requests.proofs.Restarting.{found_again}
+use Rattle.tr_requests.proofs.Cloning.{is_clone, is_new_id, spawns}
+use Rattle.tr_requests.proofs.Restarting.{found_again, same_thread}
 use Rattle.tr_requests.proofs.clones.clone_thread.Goals as goal
 
 pub spawn-requires-clause-new_id : goal.spawn-requires-clause-new_id
