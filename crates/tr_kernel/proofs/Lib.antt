@@ -3,4 +3,5 @@ pub mod Called
 pub mod Checks
 pub mod Histories
 pub mod Noted
+pub mod Positions
 pub mod Refusals
