@@ -2,5 +2,15 @@
 #![tactic(auto)]
 
 mod answers;
+mod held;
+mod hubs;
+mod seats;
+mod shares;
+mod waits;
 
 pub use answers::{Answer, Asked, Receipt};
+pub use held::Held;
+pub use hubs::{Hub, HubFault, Unclosed};
+pub use seats::Seat;
+pub use shares::Parts;
+pub use waits::WaitCall;

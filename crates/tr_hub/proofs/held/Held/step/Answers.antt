@@ -1,0 +1,18 @@
+use Rattle.std.proofs.Common.{◌≡◌, ap, arith, length}
+use Rattle.tr_hub.proofs.Keeping.{accepted_booked, entries_booked, kept_after}
+use Rattle.tr_hub.specs.Kept.{HeldState}
+use Rattle.tr_hub.proofs.held.Held.step.Goals as goal
+
+pub invariant_of-self-2 : goal.invariant_of-self-2
+invariant_of-self-2 g c =
+    let h : HeldState = record { kernel = c.self.inside.kernel; asked = c.self.inside.asked.items } in
+    let actor = c.actor-actor.result in
+    let event = c.args.event in
+    let answer = c.called-answer.result in
+    let new = c.called-answer.new.kernel in
+    let e = c.called-answer.ensures in
+    let i = c.self.invariant in
+    let entries = entries_booked h.kernel actor event answer new e.entered e.read e.unchanged in
+    let accepted = accepted_booked h.kernel actor event answer new e.receipt e.read e.unchanged in
+    rw (c.keep.ensures, c.reserve.ensures.items, c.journal.ensures.entries)
+    (kept_after h actor event answer new i.0 e.history e.entered e.read e.refused e.unchanged, omega (arith, c.add.ensures.entries), omega (arith, c.add.ensures.accepted), i.3, i.4, i.5, i.6)

@@ -1,0 +1,146 @@
+ghost use Rattle.std.specs.Prelude.{◌≡◌, ◌≢◌, ◌<◌, [], length};
+ghost use Rattle.tr_kernel.specs.States.{IsEntered, IsHistory, IsQuiet, IsRefusal};
+ghost use Rattle.tr_hub.specs.Answers.{IfEntered, IfRead, IfRefused, IsReceipt, asked_after};
+ghost use Rattle.tr_hub.specs.Kept.{IsKept};
+ghost use Rattle.tr_hub.specs.Seats.{seat_after};
+
+use crate::answers::{Answer, Asked, Receipt, keep};
+use crate::seats::Seat;
+use crate::shares::{Books, Parts, Shares};
+use std::alloc::Global;
+use std::marker::Model;
+use tr_kernel::Kernel;
+use tr_model::{Event, Refusal};
+
+/// What the lock of a hub keeps: a kernel, the books of its entries and of the signals that they accepted, and every
+/// answer without an entry.
+#[derive(Drop)]
+pub struct Held<E: Parts, A: Parts> {
+    kernel: Kernel,
+    books: Books<E, A>,
+    asked: Vec<Asked>,
+    /// The hub's own part of each ledger, on which nothing stands.
+    own: Shares<E, A>,
+}
+
+impl<E: Parts, A: Parts> Model for Held<E, A> {
+    ghost use Rattle.std.specs.Prelude.{◌≡◌, length};
+    ghost use Rattle.tr_hub.specs.Kept.{HeldState, IsKept};
+
+    ghost Value = { HeldState };
+
+    ghost view = { λ h. record { kernel = h.kernel; asked = h.asked.items } };
+
+    ghost invariant = { λ h.
+        IsKept (record { kernel = h.kernel; asked = h.asked.items })
+        × (h.books.entries.total ≡ length h.kernel.journal) × (h.books.accepted.total ≡ h.kernel.table.accepted)
+        × (h.own.entries.parts ≡ 1) × (h.own.entries.amount ≡ 0) × (h.own.accepted.parts ≡ 1) × (h.own.accepted.amount ≡ 0) };
+}
+
+/// What is left when the lock is gone.
+#[derive(Drop)]
+pub(crate) struct Opened<E: Parts, A: Parts> {
+    pub(crate) kernel: Kernel,
+    pub(crate) books: Books<E, A>,
+    pub(crate) asked: Vec<Asked>,
+    pub(crate) own: Shares<E, A>,
+}
+
+impl<E: Parts, A: Parts> Held<E, A> {
+    pub(crate) fn new(
+        alloc: Global,
+        kernel: Kernel,
+        books: Books<E, A>,
+        own: Shares<E, A>,
+    ) -> Held<E, A>
+        requires empty { kernel.journal ≡ [] }
+        requires totals { (books.entries.total ≡ 0) × (books.accepted.total ≡ 0) }
+        requires parts { (own.entries.parts ≡ 1) × (own.accepted.parts ≡ 1) }
+        requires amounts { (own.entries.amount ≡ 0) × (own.accepted.amount ≡ 0) }
+        ensures { (result.kernel ≡ kernel) × (result.asked ≡ []) }
+    {
+        let _history = kernel.journal();
+        Held {
+            kernel,
+            books,
+            asked: Vec::new(alloc),
+            own,
+        }
+    }
+
+    pub(crate) fn open(self) -> Opened<E, A>
+        ensures kept { IsKept (record { kernel = result.kernel; asked = result.asked.items }) }
+        ensures same { (result.kernel ≡ self.kernel) × (result.asked.items ≡ self.asked) }
+        ensures entries { result.books.entries.total ≡ length result.kernel.journal }
+        ensures accepted { result.books.accepted.total ≡ result.kernel.table.accepted }
+        ensures parts { (result.own.entries.parts ≡ 1) × (result.own.accepted.parts ≡ 1) }
+        ensures amounts { (result.own.entries.amount ≡ 0) × (result.own.accepted.amount ≡ 0) }
+    {
+        let Held {
+            kernel,
+            books,
+            asked,
+            own,
+        } = self;
+        Opened {
+            kernel,
+            books,
+            asked,
+            own,
+        }
+    }
+
+    /// One event of a seat's actor: what each call of a hub does under the lock.
+    ///
+    /// `Refused(NoMemory)` comes where room for the answer was refused, or as from `Kernel::step`; then nothing has
+    /// changed. Every other answer is the kernel's: an entry with its receipt, which is added to the seat, or a reply or
+    /// refusal that the model gives on the table held, which is written down at the journal's length.
+    pub fn step(&mut self, seat: &mut Seat<E, A>, event: Event) -> Answer
+        ensures seat { seat.new ≡ seat_after seat.old result }
+        ensures asked { self.new.asked ≡ asked_after self.old.asked seat.old.actor event (length self.old.kernel.journal) result }
+        ensures entered { IfEntered result (λ r. IsEntered self.old.kernel seat.old.actor event r.reply self.new.kernel) }
+        ensures room { IfEntered result (λ _. length self.old.kernel.journal < self.old.kernel.table.entries) }
+        ensures receipt { IfEntered result (λ r. IsReceipt r event self.old.kernel self.new.kernel) }
+        ensures read { IfRead result (λ reply. IsQuiet self.old.kernel seat.old.actor event reply self.new.kernel) }
+        ensures refused { IfRefused result (λ why. why ≢ Refusal.NoMemory → IsRefusal self.old.kernel seat.old.actor event why) }
+        ensures unchanged { IfRefused result (λ _. self.new.kernel ≡ self.old.kernel) }
+    {
+        if self.asked.reserve(1).is_err() {
+            return Answer::Refused(Refusal::NoMemory);
+        }
+        let actor = seat.actor();
+        let position = self.kernel.journal().len() as u64;
+        let answer = called(&mut self.kernel, actor, &event);
+        keep(&mut self.asked, actor, &event, position, &answer);
+        seat.add(&mut self.books, &answer);
+        answer
+    }
+}
+
+/// One event of an actor at a kernel, with the receipt of an entry.
+fn called(kernel: &mut Kernel, actor: u32, event: &Event) -> Answer
+    ensures entered { IfEntered result (λ r. IsEntered kernel.old actor event.now r.reply kernel.new) }
+    ensures room { IfEntered result (λ _. length kernel.old.journal < kernel.old.table.entries) }
+    ensures receipt { IfEntered result (λ r. IsReceipt r event.now kernel.old kernel.new) }
+    ensures read { IfRead result (λ reply. IsQuiet kernel.old actor event.now reply kernel.new) }
+    ensures refused { IfRefused result (λ why. IsRefusal kernel.old actor event.now why) }
+    ensures unchanged { IfRefused result (λ _. kernel.new ≡ kernel.old) }
+    ensures history { IsHistory kernel.new }
+{
+    let before = kernel.journal().len();
+    let accepted = kernel.table().accepted();
+    let reply = match kernel.step(actor, *event) {
+        Ok(reply) => reply,
+        Err(why) => return Answer::Refused(why),
+    };
+    let position = kernel.journal().len();
+    if position == before {
+        return Answer::Read(reply);
+    }
+    Answer::Entered(Receipt {
+        position: position as u64,
+        event: *event,
+        reply,
+        accepted: kernel.table().accepted() - accepted,
+    })
+}
