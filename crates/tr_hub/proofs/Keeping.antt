@@ -1,15 +1,13 @@
 -- What the lock keeps lasts over a step.
-use Rattle.std.proofs.Common.{◌≡◌, ◌≢◌, ◌⊎◌, ℕ, ◌+◌, ◌<◌, ◌≤◌, List, [], ◌∷◌, ◌++◌, Bool, true, false, Option, Some, None, Result, Ok, Err, length, refl, sym, ap, ◌∙◌, subst, arith, inl, inr, absurd, length-append, nat_le, leb-true, leb-false}
+use Rattle.std.proofs.Common.{◌≡◌, ℕ, ◌+◌, ◌≤◌, List, [], ◌∷◌, ◌++◌, length, refl, sym, ap, ◌∙◌, subst, arith, length-append}
 use Rattle.tr_model.specs.declared.events.Entry.{Entry}
 use Rattle.tr_model.specs.declared.events.Event.{Event}
-use Rattle.tr_model.specs.declared.replies.Refusal.{Refusal}
 use Rattle.tr_model.specs.declared.replies.Refusal.TheVariants.{NoMemory, JournalFull}
 use Rattle.tr_model.specs.declared.replies.Reply.{Reply}
-use Rattle.tr_model.specs.Journals.{Replay}
 use Rattle.tr_model.specs.Tables.{Table}
 use Rattle.tr_table.specs.Starts.{table_of}
 use Rattle.tr_kernel.specs.Positions.{table_at}
-use Rattle.tr_kernel.specs.States.{State, IsDue, IsEntered, IsHistory, IsQuiet, IsRefusal, entry_of}
+use Rattle.tr_kernel.specs.States.{State, IsEntered, IsHistory, IsQuiet, IsRefusal, entry_of}
 use Rattle.tr_kernel.proofs.Positions.{table_at_end, table_at_kept}
 use Rattle.tr_hub.specs.declared.answers.Answer.{Answer}
 use Rattle.tr_hub.specs.declared.answers.Answer.TheVariants.{Entered, Read, Refused}
@@ -78,14 +76,6 @@ kept_after h actor event (Refused NoMemory) k kept history e q f u = rw u kept
 kept_after h actor event (Refused JournalFull) k kept history e q f u = rw u (kept_asked h (record { actor = actor; event = event; position = length h.kernel.journal; answer = Refused JournalFull }) kept refl (f.0.no_cause, f.0.not_quiet, f.1))
 kept_after h actor event (Refused why) k kept history e q f u = rw u (kept_asked h (record { actor = actor; event = event; position = length h.kernel.journal; answer = Refused why }) kept refl f)
 
--- an empty journal's table has accepted nothing
-pub nothing_accepted : (k : State) → IsHistory k → k.journal ≡ [] → k.table.accepted ≡ 0
-nothing_accepted k history h = go k.replies (subst (λ (es : List Entry). Replay (table_of k.start) es k.replies k.table) h history.replayed)
-  where
-    go : (rs : List Reply) → Replay (table_of k.start) [] rs k.table → k.table.accepted ≡ 0
-    go [] r = ap (λ (T : Table). T.accepted) r
-    go (x ∷ rs) r = absurd r
-
 -- Books
 
 longer : (old : State) (actor : ℕ) (event : Event) (reply : Reply) (new : State) → IsEntered old actor event reply new → length new.journal ≡ length old.journal + 1
@@ -108,20 +98,3 @@ pub accepted_booked : (old : State) (actor : ℕ) (event : Event) (answer : Answ
 accepted_booked old actor event (Entered r) new e q u = e.accepted
 accepted_booked old actor event (Read reply) new e q u = rw q.same (omega arith)
 accepted_booked old actor event (Refused why) new e q u = rw u (omega arith)
-
--- The journal's length tells an entry from an answer without one
-
-pub entered_where_longer : (old : State) (actor : ℕ) (event : Event) (reply : Reply) (new : State) → IsQuiet old actor event reply new ⊎ IsEntered old actor event reply new → length new.journal ≢ length old.journal → IsEntered old actor event reply new
-entered_where_longer old actor event reply new s h = elim s [ inl q ↦ absurd (h (ap (λ (k : State). length k.journal) q.same)) | inr e ↦ e ]
-
-pub quiet_where_same : (old : State) (actor : ℕ) (event : Event) (reply : Reply) (new : State) → IsQuiet old actor event reply new ⊎ IsEntered old actor event reply new → length new.journal ≡ length old.journal → IsQuiet old actor event reply new
-quiet_where_same old actor event reply new s h = elim s [ inl q ↦ q | inr e ↦ (let more = longer old actor event reply new e in absurd (omega arith)) ]
-
--- an entry had room in the journal
-pub room_before : (old : State) (actor : ℕ) (event : Event) (reply : Reply) (new : State) → IsEntered old actor event reply new
-    → (IsDue old actor event → old.table.entries ≤ length old.journal → ◌≡◌ {A = Result Reply Refusal} (Ok reply) (Err JournalFull)) → length old.journal < old.table.entries
-room_before old actor event reply new e full = go (nat_le old.table.entries (length old.journal)) refl
-  where
-    go : (b : Bool) → nat_le old.table.entries (length old.journal) ≡ b → length old.journal < old.table.entries
-    go true h = absurd cc
-    go false h = let l = leb-false old.table.entries (length old.journal) h in omega arith

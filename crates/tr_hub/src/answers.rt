@@ -46,7 +46,10 @@ impl Answer {
     pub(crate) fn is_kept(&self) -> bool
         ensures { result ≡ is_kept self.now }
     {
-        !matches!(self, Answer::Entered(_) | Answer::Refused(Refusal::NoMemory))
+        !matches!(
+            self,
+            Answer::Entered(_) | Answer::Refused(Refusal::NoMemory)
+        )
     }
 }
 

@@ -1,4 +1,4 @@
-use Rattle.std.proofs.Common.{◌≡◌, ap, arith, length}
+use Rattle.std.proofs.Common.{arith}
 use Rattle.tr_hub.proofs.Keeping.{accepted_booked, entries_booked, kept_after}
 use Rattle.tr_hub.specs.Kept.{HeldState}
 use Rattle.tr_hub.proofs.held.Held.step.Goals as goal
