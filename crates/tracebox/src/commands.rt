@@ -9,15 +9,16 @@ use std::alloc::{AllocError, Global};
 const VERSION: &str = "0.1.0";
 
 const PROGRAM_END: &str =
-    "A fault goes to standard error, as `tracebox: ` and its name. Exit status: 0 done, also help; \
-1 the input is refused, or no status has the word; 2 the command line isn't one of these; 3 memory, \
-the reader or the writer failed.\n\n\
+    "`serial` reads a scenario on standard input, `decode` nothing but its WORD. Both print on standard\n\
+output. A fault goes to standard error, as `tracebox: ` and its name. Exit status: 0 done, also\n\
+help; 1 the input is refused, or no status has the word; 2 the command line isn't one of these;\n\
+3 memory, the reader or the writer failed.\n\n\
 Example:\n  \
 tracebox serial < scenario.json";
 
 const SERIAL: &str = "Runs the scenario on standard input, one call after another.\n\n\
-Reads one JSON object of at most 1,048,576 bytes: where a kernel starts from, and the steps that \
-are made. Prints a line for each call, then the status of each thread, then how many signals were \
+Reads one JSON object of at most 1,048,576 bytes: where a kernel starts from, and the steps that\n\
+are made. Prints a line for each call, then the status of each thread, then how many signals were\n\
 accepted and what became of them. Nothing is printed of an input that is refused.";
 
 const SERIAL_END: &str = "Example:\n  \
@@ -27,8 +28,8 @@ tracebox serial\n\
 prints `#1 900 kill sent 1 pending`, the thread's status, and the totals.";
 
 const DECODE: &str = "Tells the status that a wait status word has, as waitpid(2) gives it.\n\n\
-Reads nothing but its WORD. Prints one line: exited CODE, killed SIGNAL, stopped SIGNAL, \
-event clone, event exec, event exit, event stop SIGNAL or continued.";
+Prints one line: exited CODE, killed SIGNAL, stopped SIGNAL, event clone, event exec, event exit,\n\
+event stop SIGNAL or continued.";
 
 const DECODE_END: &str = "Example:\n  \
 tracebox decode 80137f\n\
