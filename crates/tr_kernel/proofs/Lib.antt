@@ -1,7 +1,9 @@
 pub mod Begun
+pub mod Bumped
 pub mod Called
 pub mod Checks
 pub mod Histories
+pub mod Logs
 pub mod Noted
 pub mod Positions
 pub mod Refusals

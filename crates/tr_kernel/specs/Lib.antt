@@ -1,3 +1,5 @@
 pub mod Fates
+pub mod Laws
+pub mod Notes
 pub mod Positions
 pub mod States

@@ -5,6 +5,7 @@ mod entries;
 mod events;
 mod fates;
 mod kernels;
+mod notes;
 
 pub use kernels::{Kernel, StartFault};
 
