@@ -5,5 +5,6 @@ pub mod Checks
 pub mod Histories
 pub mod Logs
 pub mod Noted
+pub mod Noting
 pub mod Positions
 pub mod Refusals

@@ -431,19 +431,22 @@ is_other : (e : Event) → IsOther e ⊎ ((id : ℕ) × (e ≡ event.Finish id))
 is_other (event.Finish id) = inr (id, refl)
 is_other _ = inl tt
 
--- how many deaths an entry begins
-pub deaths_few : (T : Table) (e : Entry) → length (Steps.work_of T e).dying ≤ deaths_by e.event (length T.threads)
+few_by : (e : Event) (n : ℕ) → deaths_by e n ≤ n + n + 1
+few_by event.TracerExit n = omega arith
+few_by _ n = omega arith
+
+-- an entry begins at most two deaths for each thread of the table, and one
+pub deaths_few : (T : Table) (e : Entry) → length (Steps.work_of T e).dying ≤ length T.threads + length T.threads + 1
 deaths_few T e = go (is_other e.event)
   where
     v : Work
     v = Steps.does e.actor e.event e.choice (Moves.begin T)
 
-    go : IsOther e.event ⊎ ((id : ℕ) × (e.event ≡ event.Finish id)) → length (Steps.work_of T e).dying ≤ deaths_by e.event (length T.threads)
-    go (inl o) = omega (arith, (settles v).dying, (does T e.actor e.event e.choice o).dying)
+    go : IsOther e.event ⊎ ((id : ℕ) × (e.event ≡ event.Finish id)) → length (Steps.work_of T e).dying ≤ length T.threads + length T.threads + 1
+    go (inl o) = omega (arith, (settles v).dying, (does T e.actor e.event e.choice o).dying, few_by e.event (length T.threads))
     go (inr f) =
         let p : length v.dying ≤ 1 = subst (λ x. length (Steps.does e.actor x e.choice (Moves.begin T)).dying ≤ 1) (sym f.1) (finished T f.0).0 in
-        let n : deaths_by e.event (length T.threads) ≡ 1 = ap (λ x. deaths_by x (length T.threads)) f.1 in
-        omega (arith, (settles v).dying, p, n)
+        omega (arith, (settles v).dying, p)
 
 -- which id it gives to another thread
 pub passed_is : (T : Table) (e : Entry) → (Steps.work_of T e).renamed ≡ passed_by T e.event

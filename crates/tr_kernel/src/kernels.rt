@@ -1,4 +1,4 @@
-ghost use Rattle.std.specs.Prelude.{◌≡◌, ℕ, ◌≤◌, ◌<◌, ◌+◌, ◌-◌, ◌⊎◌, length, slice_get, IfOk, IfErr, IfSome, OnErr, Ok, Err, Some, None, false, true};
+ghost use Rattle.std.specs.Prelude.{◌≡◌, ℕ, ◌≤◌, ◌<◌, ◌+◌, ◌-◌, ◌^◌, ◌⊎◌, length, slice_get, IfOk, IfErr, IfSome, OnErr, Ok, Err, Some, None, false, true};
 ghost use Rattle.tr_model.specs.declared.checked.Checked.TheVariants.{Due};
 ghost use Rattle.tr_model.specs.declared.replies.Refusal.{Refusal};
 ghost use Rattle.tr_model.specs.Journals.{HasFate, consumed_by, ended_by, fate_of, occurs, totals};
@@ -11,6 +11,7 @@ ghost use Rattle.tr_kernel.specs.States.{AcceptsFew, IsDue, IsEntered, IsHistory
 use crate::entries::write_entry;
 use crate::events::check;
 use crate::fates::{at_position, tally};
+use crate::notes::Notes;
 use std::alloc::{AllocError, Global};
 use std::marker::Model;
 use tr_model::{Checked, Choice, Entry, Event, Fate, Refusal, Reply, Totals};
@@ -34,17 +35,20 @@ pub struct Kernel {
     journal: Vec<Entry>,
     replies: Vec<Reply>,
     fates: Vec<Fate>,
+    notes: Notes,
     alloc: Global,
 }
 
 impl Model for Kernel {
+    ghost use Rattle.tr_table.specs.Starts.{table_of};
+    ghost use Rattle.tr_kernel.specs.Notes.{IsNoted};
     ghost use Rattle.tr_kernel.specs.States.{State, IsHistory};
 
     ghost Value = { State };
 
     ghost view = { λ k. record { start = k.start; table = k.table.table; journal = k.journal.items; replies = k.replies.items; fates = k.fates.items } };
 
-    ghost invariant = { λ k. IsHistory (record { start = k.start; table = k.table.table; journal = k.journal.items; replies = k.replies.items; fates = k.fates.items }) };
+    ghost invariant = { λ k. IsHistory (record { start = k.start; table = k.table.table; journal = k.journal.items; replies = k.replies.items; fates = k.fates.items }) × IsNoted (table_of k.start) k.journal.items k.notes.list.items k.notes.dying.items k.notes.passed.items };
 }
 
 impl Kernel {
@@ -64,6 +68,7 @@ impl Kernel {
                 journal: Vec::new(alloc),
                 replies: Vec::new(alloc),
                 fates: Vec::new(alloc),
+                notes: Notes::new(alloc),
                 alloc,
             }),
             Err(AllocError) => Err(StartFault::NoMemory),
@@ -147,7 +152,8 @@ impl Kernel {
 
     /// Makes the entry of an event that is due. Where memory is refused nothing has changed.
     fn enter(&mut self, actor: u32, event: &Event, choice: &Choice) -> Result<Reply, Refusal>
-        requires { check self.old.table actor event.now ≡ Ok (Due choice.now) }
+        requires few { length self.old.journal < 2 ^ 32 }
+        requires due { check self.old.table actor event.now ≡ Ok (Due choice.now) }
         ensures ok { IfOk result (λ reply. IsEntered self.old actor event.now reply self.new) }
         ensures err { IfErr result (λ why. why ≡ Refusal.NoMemory) }
         ensures unchanged { OnErr result (self.new ≡ self.old) }
@@ -159,6 +165,7 @@ impl Kernel {
             &mut self.journal,
             &mut self.replies,
             &mut self.fates,
+            &mut self.notes,
             self.alloc,
             actor,
             event,

@@ -58,9 +58,6 @@ pub(crate) struct Passed {
     pub(crate) times: u64,
 }
 
-/// The most groups whose death one entry begins: two for each thread, where a tracer ends.
-const DEATHS_AT_ONCE: usize = 2048;
-
 /// The notes of a journal: one for each entry, and all groups whose death began, in order. Of each id that passed to
 /// another thread stands how often.
 #[derive(Drop)]
@@ -253,15 +250,16 @@ impl Notes {
         }
     }
 
-    /// Makes room for the note of one entry. Where memory is refused the notes are as before.
-    pub(crate) fn reserve(&mut self) -> Result<(), AllocError>
+    /// Makes room for the note of one entry, by which at most this many deaths of groups begin. Where memory is refused
+    /// the notes are as before.
+    pub(crate) fn reserve(&mut self, deaths: usize) -> Result<(), AllocError>
         ensures list { self.new.list.items ≡ self.old.list.items }
         ensures dying { self.new.dying.items ≡ self.old.dying.items }
         ensures passed { self.new.passed.items ≡ self.old.passed.items }
-        ensures room { OnOk result ((vec_len self.new.list < vec_capacity self.new.list) × (vec_len self.new.dying + 2048 ≤ vec_capacity self.new.dying) × (vec_len self.new.passed < vec_capacity self.new.passed)) }
+        ensures room { OnOk result ((vec_len self.new.list < vec_capacity self.new.list) × (vec_len self.new.dying + deaths ≤ vec_capacity self.new.dying) × (vec_len self.new.passed < vec_capacity self.new.passed)) }
     {
         self.list.reserve(1)?;
-        self.dying.reserve(DEATHS_AT_ONCE)?;
+        self.dying.reserve(deaths)?;
         self.passed.reserve(1)
     }
 
