@@ -6,6 +6,7 @@ mod events;
 mod fates;
 mod kernels;
 mod notes;
+mod restarts;
 
 pub use kernels::{Kernel, StartFault};
 
