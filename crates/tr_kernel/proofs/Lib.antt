@@ -2,9 +2,12 @@ pub mod Begun
 pub mod Bumped
 pub mod Called
 pub mod Checks
+pub mod Cuts
 pub mod Histories
 pub mod Logs
 pub mod Noted
+pub mod Noticed
 pub mod Noting
 pub mod Positions
 pub mod Refusals
+pub mod Waited

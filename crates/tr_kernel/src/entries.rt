@@ -3,6 +3,7 @@ ghost use Rattle.tr_model.specs.declared.checked.Checked.TheVariants.{Due};
 ghost use Rattle.tr_model.specs.Preferred.{check};
 ghost use Rattle.tr_model.specs.Steps.{after, work_of};
 ghost use Rattle.tr_kernel.specs.Fates.{fates_after};
+ghost use Rattle.tr_kernel.specs.Laws.{report_of};
 ghost use Rattle.tr_kernel.specs.Notes.{all_bumped, noted, passed_by, times};
 ghost use Rattle.tr_kernel.specs.States.{AcceptsFew};
 
@@ -22,6 +23,19 @@ fn deaths_at_once(table: &Table) -> usize
     ensures { result ≡ length table.now.table.threads + length table.now.table.threads + 1 }
 {
     2 * table.threads().len() + 1
+}
+
+/// The report that an entry consumed, where it is a wait.
+pub(crate) fn report_of(entry: &Option<Entry>) -> Option<u64>
+    ensures { result ≡ report_of entry.now }
+{
+    match entry {
+        Some(entry) => match entry.event {
+            Event::Wait { .. } | Event::StarterWait { .. } => entry.choice.report,
+            _ => None,
+        },
+        None => None,
+    }
 }
 
 fn copied(reply: &Reply) -> Reply

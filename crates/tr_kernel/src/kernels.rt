@@ -1,4 +1,4 @@
-ghost use Rattle.std.specs.Prelude.{◌≡◌, ℕ, ◌≤◌, ◌<◌, ◌+◌, ◌-◌, ◌^◌, ◌⊎◌, length, slice_get, IfOk, IfErr, IfSome, OnErr, Ok, Err, Some, None, false, true};
+ghost use Rattle.std.specs.Prelude.{◌≡◌, ◌≢◌, ◌↔◌, ℕ, ◌≤◌, ◌<◌, ◌+◌, ◌-◌, ◌^◌, ◌⊎◌, IsSome, IsTrue, length, slice_get, IfOk, IfErr, IfSome, OnErr, Ok, Err, Some, None, false, true};
 ghost use Rattle.tr_model.specs.declared.checked.Checked.TheVariants.{Due};
 ghost use Rattle.tr_model.specs.declared.replies.Refusal.{Refusal};
 ghost use Rattle.tr_model.specs.Journals.{HasFate, consumed_by, ended_by, fate_of, occurs, totals};
@@ -6,12 +6,16 @@ ghost use Rattle.tr_model.specs.Laws.{OneFate};
 ghost use Rattle.tr_model.specs.Causes.{cause_of};
 ghost use Rattle.tr_model.specs.Preferred.{check};
 ghost use Rattle.tr_table.specs.Starts.{is_good, table_of};
+ghost use Rattle.tr_kernel.specs.Laws.{KillsAt, RaisedBefore, WaitsAt, consumed_at};
+ghost use Rattle.tr_kernel.specs.Notes.{notes_of};
+ghost use Rattle.tr_kernel.specs.Restarts.{IsRestartAt, mark_at};
 ghost use Rattle.tr_kernel.specs.States.{AcceptsFew, IsDue, IsEntered, IsHistory, IsQuiet, IsRefusal, opened};
 
-use crate::entries::write_entry;
+use crate::entries::{report_of, write_entry};
 use crate::events::check;
 use crate::fates::{at_position, tally};
-use crate::notes::Notes;
+use crate::notes::{Mark, Notes, Stopped, is_killed, mark_in};
+use crate::restarts::first_restart;
 use std::alloc::{AllocError, Global};
 use std::marker::Model;
 use tr_model::{Checked, Choice, Entry, Event, Fate, Refusal, Reply, Totals};
@@ -122,6 +126,53 @@ impl Kernel {
         ensures sum { result.pending + result.merged + result.delivered + result.suppressed + result.flushed ≡ result.accepted }
     {
         tally(&self.fates, self.table.accepted())
+    }
+
+    /// The report that the wait at a position, from 1, consumed; None where the entry there isn't a wait of a tracer or
+    /// the starter, and where there is none. An entry before raised it, for whom the wait consumed it, and no other wait
+    /// consumed it.
+    pub fn consumed_at(&self, position: u64) -> Option<u64>
+        ensures report { result ≡ consumed_at self.now.journal position }
+        ensures exactly { IsSome result ↔ WaitsAt self.now.journal position }
+        ensures raised { IfSome result (λ r. RaisedBefore (table_of self.now.start) self.now.journal position r) }
+        ensures once { IfSome result (λ r. (p : ℕ) → p ≢ position → consumed_at self.now.journal p ≢ Some r) }
+    {
+        report_of(&at_position(&self.journal, position))
+    }
+
+    /// What the entry at a position is to the laws.
+    pub(crate) fn mark_at(&self, position: u64) -> Mark
+        ensures mark { result ≡ mark_at (notes_of (table_of self.now.start) self.now.journal) position }
+        ensures history { IsHistory self.now }
+    {
+        mark_in(&at_position(&self.notes.list, position))
+    }
+
+    /// Whether the entry at a position delivers a KILL.
+    pub(crate) fn kills_at(&self, position: u64) -> bool
+        ensures { IsTrue result ↔ ((g : ℕ) × KillsAt (table_of self.now.start) self.now.journal position g) }
+    {
+        is_killed(&at_position(&self.notes.list, position))
+    }
+
+    /// The position of the first entry, between a wait for this thread's stop and a later position, that restarts the
+    /// thread or begins the death of its group.
+    pub(crate) fn first_restart(&self, stop: &Stopped, i: u64, j: u64) -> Option<u64>
+        requires { (1 ≤ i) × (i < j) × (j ≤ length self.now.journal) }
+        ensures found { IfSome result (λ k. IsRestartAt (table_of self.now.start) self.now.journal i j stop.now k) }
+        ensures none { result ≡ None → (k : ℕ) → IsRestartAt (table_of self.now.start) self.now.journal i j stop.now k → ⊥ }
+    {
+        let tracer = self.journal[i as usize - 1].actor;
+        let place = first_restart(
+            stop,
+            tracer,
+            &self.journal,
+            &self.notes.list,
+            &self.notes.dying,
+            i as usize,
+            j as usize - 1,
+        )?;
+        Some(place as u64 + 1)
     }
 
     /// One event of an actor: an answer without an entry, or one entry more, or a refusal.

@@ -5,6 +5,7 @@ mod entries;
 mod events;
 mod fates;
 mod kernels;
+pub mod laws;
 mod notes;
 mod restarts;
 

@@ -1,6 +1,7 @@
 ghost use Rattle.std.specs.Prelude.{◌≡◌, ◌≤◌, ◌<◌, ◌+◌, ◌++◌, ◌∷◌, ◌^◌, [], ℕ, false, length, not, option_copied, slice_get, vec_len, vec_capacity, ◌&&◌, OnOk};
 ghost use Rattle.tr_model.specs.Journals.{chosen};
 ghost use Rattle.tr_kernel.specs.Notes.{all_bumped, bumped, exec_mark, is_some_group, is_stop_status, mark_after, mark_before, passed_by, passed_id, passes_in, shows_stop, stop_mark, times, took_mark};
+ghost use Rattle.tr_kernel.specs.Restarts.{killed_in, mark_in};
 
 use crate::fates::{append, at_position};
 use std::alloc::{AllocError, Global};
@@ -236,6 +237,26 @@ fn append_all(list: &mut Vec<u32>, more: &[u32])
 {
     for item in more {
         list.push_reserved(*item);
+    }
+}
+
+// What a note says
+
+pub(crate) fn mark_in(note: &Option<Note>) -> Mark
+    ensures { result ≡ mark_in note.now }
+{
+    match note {
+        Some(note) => note.mark,
+        None => Mark::Nothing,
+    }
+}
+
+pub(crate) fn is_killed(note: &Option<Note>) -> bool
+    ensures { result ≡ killed_in note.now }
+{
+    match note {
+        Some(note) => note.killed,
+        None => false,
     }
 }
 
