@@ -4,10 +4,13 @@ pub mod Called
 pub mod Checks
 pub mod Cuts
 pub mod Histories
+pub mod Killed
 pub mod Logs
 pub mod Noted
 pub mod Noticed
 pub mod Noting
+pub mod Ordered
 pub mod Positions
 pub mod Refusals
+pub mod Restarted
 pub mod Waited
