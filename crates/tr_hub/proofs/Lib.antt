@@ -1,2 +1,3 @@
 pub mod Keeping
-mod Limits
+pub mod Limits
+pub mod Tries

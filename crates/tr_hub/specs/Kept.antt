@@ -49,3 +49,9 @@ pub record IsKept (h : HeldState) : Type 0 where
   pub within : length h.kernel.journal ≤ h.kernel.table.entries
   pub legal : AllLegal (table_of h.kernel.start) h.kernel.journal h.asked
   pub rising : Rises 0 h.asked (length h.kernel.journal)
+
+-- an answer that some kernel gives without an entry
+pub record IsPossible (actor : ℕ) (event : Event) (answer : Answer) : Type 0 where
+  pub kernel : State
+  pub history : IsHistory kernel
+  pub answered : Answers kernel.table (length kernel.journal) actor event answer

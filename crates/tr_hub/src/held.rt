@@ -106,6 +106,7 @@ impl<E: Parts, A: Parts> Held<E, A> {
         ensures read { IfRead result (λ reply. IsQuiet self.old.kernel seat.old.actor event reply self.new.kernel) }
         ensures refused { IfRefused result (λ why. why ≢ Refusal.NoMemory → IsRefusal self.old.kernel seat.old.actor event why) }
         ensures unchanged { IfRefused result (λ _. self.new.kernel ≡ self.old.kernel) }
+        ensures kept { IsKept self.new }
     {
         if self.asked.reserve(1).is_err() {
             return Answer::Refused(Refusal::NoMemory);
