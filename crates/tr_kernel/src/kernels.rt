@@ -1,5 +1,6 @@
 ghost use Rattle.std.specs.Prelude.{◌≡◌, ◌≢◌, ◌↔◌, ℕ, ◌≤◌, ◌<◌, ◌+◌, ◌-◌, ◌^◌, ◌⊎◌, IsSome, IsTrue, length, slice_get, IfOk, IfErr, IfSome, OnErr, Ok, Err, Some, None, false, true};
 ghost use Rattle.tr_model.specs.declared.checked.Checked.TheVariants.{Due};
+ghost use Rattle.tr_model.specs.declared.fates.Fate.{Fate};
 ghost use Rattle.tr_model.specs.declared.replies.Refusal.{Refusal};
 ghost use Rattle.tr_model.specs.Journals.{HasFate, consumed_by, ended_by, fate_of, occurs, totals};
 ghost use Rattle.tr_model.specs.Laws.{OneFate};
@@ -112,10 +113,12 @@ impl Kernel {
         at_position(&self.replies, position)
     }
 
-    /// What has become of the accepted signal of a number, from 1 up; None for 0 and for numbers not accepted so far.
+    /// What has become of the accepted signal of a number, from 1 up: its one fate. None for 0 and for numbers not accepted
+    /// so far.
     pub fn fate(&self, number: u64) -> Option<Fate>
         ensures fate { result ≡ fate_of (table_of self.now.start) self.now.journal self.now.table number }
         ensures has { IfSome result (λ f. HasFate (ended_by (table_of self.now.start) self.now.journal) self.now.table number f) }
+        ensures only { IfSome result (λ f. (g : Fate) → HasFate (ended_by (table_of self.now.start) self.now.journal) self.now.table number g → g ≡ f) }
     {
         at_position(&self.fates, number)
     }
