@@ -28,18 +28,19 @@ IfRefused (Entered receipt) P = Unit {0}
 IfRefused (Read reply) P = Unit {0}
 IfRefused (Refused why) P = P why
 
+-- whether there is a receipt
 abbrev pub is_entered : Answer → Bool
 is_entered (Entered receipt) = true
 is_entered (Read reply) = false
 is_entered (Refused why) = false
 
--- how many entries an answer tells of
+-- how many entries were made: one or none
 abbrev pub entries_in : Answer → ℕ
 entries_in (Entered receipt) = 1
 entries_in (Read reply) = 0
 entries_in (Refused why) = 0
 
--- how many signals its entry accepted
+-- how many signals that entry accepted
 abbrev pub accepted_in : Answer → ℕ
 accepted_in (Entered receipt) = receipt.accepted
 accepted_in (Read reply) = 0

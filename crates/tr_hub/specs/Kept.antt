@@ -18,7 +18,7 @@ pub record HeldState : Type 0 where
   pub kernel : State
   pub asked : List Asked
 
--- the model refuses so, on this table and with so many entries in the journal
+-- the model refuses so, on this table and after so many entries
 abbrev pub Refuses : Table → ℕ → ℕ → Event → Refusal → Type 0
 Refuses T position actor event JournalFull = (cause_of T actor event ≡ None) × (quiet_of T actor event ≡ None) × (position ≡ T.entries)
 Refuses T position actor event NoMemory = ⊥
@@ -30,11 +30,12 @@ Answers T position actor event (Entered receipt) = ⊥
 Answers T position actor event (Read reply) = (cause_of T actor event ≡ None) × (quiet_of T actor event ≡ Some reply)
 Answers T position actor event (Refused why) = Refuses T position actor event why
 
--- the answer is the model's on the table after the first `position` entries
+-- the answer is the model's on the table after as many entries as its position says
 pub record IsLegal (T : Table) (es : List Entry) (asked : Asked) : Type 0 where
   pub within : asked.position ≤ length es
   pub answered : Answers (table_at T es asked.position) asked.position asked.actor asked.event asked.answer
 
+-- every one of them is
 abbrev pub AllLegal : Table → List Entry → List Asked → Type 0
 AllLegal T es [] = Unit {0}
 AllLegal T es (asked ∷ rest) = IsLegal T es asked × AllLegal T es rest
@@ -44,13 +45,14 @@ abbrev pub Rises : ℕ → List Asked → ℕ → Type 0
 Rises low [] high = low ≤ high
 Rises low (asked ∷ rest) high = (low ≤ asked.position) × Rises asked.position rest high
 
+-- what the lock keeps
 pub record IsKept (h : HeldState) : Type 0 where
   pub history : IsHistory h.kernel
   pub within : length h.kernel.journal ≤ h.kernel.table.entries
   pub legal : AllLegal (table_of h.kernel.start) h.kernel.journal h.asked
   pub rising : Rises 0 h.asked (length h.kernel.journal)
 
--- an answer that some kernel gives without an entry
+-- some kernel with a history answers so without an entry
 pub record IsPossible (actor : ℕ) (event : Event) (answer : Answer) : Type 0 where
   pub kernel : State
   pub history : IsHistory kernel
