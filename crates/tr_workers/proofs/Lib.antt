@@ -1,0 +1,4 @@
+pub mod Counts
+pub mod Gaps
+pub mod Said
+pub mod Walks

@@ -1,0 +1,4 @@
+pub mod Follows
+pub mod Settled
+pub mod Tallies
+pub mod Turns
