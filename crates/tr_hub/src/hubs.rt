@@ -1,5 +1,5 @@
 ghost use Rattle.std.specs.Prelude.{◌≡◌, ℕ, ◌≤◌, ◌<◌, ◌+◌, ◌↔◌, [], length, map, sum_by, vec_len, IfOk, IfErr, IsErr, IsErrOf};
-ghost use Rattle.tr_hub.specs.Answers.{IfEntered};
+ghost use Rattle.tr_hub.specs.Answers.{IfEntered, IfRead};
 ghost use Rattle.tr_hub.specs.Kept.{IsKept};
 ghost use Rattle.tr_hub.specs.Seats.{HasRepeat, event_of, new_seat, seat_after};
 
@@ -107,6 +107,7 @@ impl<E: Parts, A: Parts> Hub<E, A> {
     ) -> Answer
         ensures seat { seat.new ≡ seat_after seat.old result }
         ensures receipt { IfEntered result (λ r. (r.event ≡ event_of what) × (r.accepted ≤ 1024)) }
+        ensures read { IfRead result (λ reply. reply ≡ Reply.Nothing) }
         ensures none { turns ≡ 0 → result ≡ Answer.Read Reply.Nothing }
     {
         let event = what.event();

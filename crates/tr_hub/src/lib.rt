@@ -14,3 +14,6 @@ pub use hubs::{Hub, HubFault, Unclosed};
 pub use seats::Seat;
 pub use shares::Parts;
 pub use waits::WaitCall;
+
+#[cfg(test)]
+mod tests;

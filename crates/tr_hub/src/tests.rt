@@ -1,0 +1,146 @@
+ghost use Rattle.std.specs.Prelude.{◌≡◌, ◌+◌, [], length, IfOk};
+
+mod calls;
+mod ends;
+mod waits;
+
+use super::*;
+use std::alloc::Global;
+use std::fmt::Debug;
+use std::marker::Brand;
+use std::process::Abort;
+use std::sync::Wait;
+use std::sync::ledger::{Blank, Ledger};
+use std::test::Fail;
+use std::thread::Threads;
+use tr_kernel::Kernel;
+use tr_model::Event;
+use tr_sigset::SigSet;
+use tr_table::{GroupStart, Items, Start};
+
+/// That a value is the one that is wanted.
+fn same<T: PartialEq + Debug>(rt: &impl Abort, value: &T, want: &T) {
+    assert_eq!(rt; *value, *want);
+}
+
+fn item<T: Drop>(alloc: Global, item: T) -> Result<Items<T>, Fail> {
+    let mut items = Items::new(alloc);
+    items.push(item)?;
+    Ok(items)
+}
+
+/// One thread, all of whose actions are the default.
+fn start(alloc: Global) -> Result<Start, Fail> {
+    let group = GroupStart {
+        tgid: 10,
+        name: item(alloc, b'd')?,
+        actions: Items::new(alloc),
+        threads: item(alloc, (10, SigSet::empty()))?,
+    };
+    Ok(Start {
+        groups: item(alloc, group)?,
+        limit: 4,
+        entries: 1000,
+    })
+}
+
+fn kernel(alloc: Global) -> Result<Kernel, Fail>
+    ensures { IfOk result (λ k. k.journal ≡ []) }
+{
+    match Kernel::new(alloc, start(alloc)?) {
+        Ok(kernel) => Ok(kernel),
+        Err(_) => Err(Fail::from("a kernel")),
+    }
+}
+
+/// What is tried at a hub.
+#[derive(Clone, Copy)]
+enum Trial {
+    /// That there is none.
+    Refused,
+    /// That it closes with both seats, and not with one.
+    Closed,
+    /// Waits that find nothing.
+    Tried,
+    /// A wait in one thread, and what it waits for in another.
+    Waited,
+    /// Calls, one after another.
+    Called(&'static [calls::Turn]),
+}
+
+fn refused(rt: &impl Abort, fault: HubFault, trial: Trial) -> Result<(), Fail> {
+    match trial {
+        Trial::Refused => {
+            same(rt, &fault, &HubFault::Repeated);
+            Ok(())
+        }
+        _ => Err(Fail::from("a hub")),
+    }
+}
+
+fn at<E: Parts + Send + Sync, A: Parts + Send + Sync, R: Threads + Wait + Abort + Sync>(
+    rt: &R,
+    alloc: Global,
+    entries: Blank,
+    accepted: Blank,
+    actors: &[u32],
+    trial: Trial,
+) -> Result<(), Fail>
+    requires two { length actors.now ≡ 2 }
+    requires entries { (entries.name ≡ E.name) × (entries.parts ≡ E.parts) × (E.all ≡ E.parts) × (E.all ≡ 3) }
+    requires accepted { (accepted.name ≡ A.name) × (accepted.parts ≡ A.parts) × (A.all ≡ A.parts) × (A.all ≡ 3) }
+{
+    let hub = Hub::<E, A>::new(alloc, entries, accepted, kernel(alloc)?, actors);
+    let (hub, seats) = match hub {
+        Ok(opened) => opened,
+        Err(fault) => return refused(rt, fault, trial),
+    };
+    match trial {
+        Trial::Refused => Err(Fail::from("no hub")),
+        Trial::Closed => ends::close(rt, hub, seats),
+        Trial::Tried => waits::try_waits(rt, &hub, seats),
+        Trial::Waited => waits::wait_for_another(rt, &hub, seats),
+        Trial::Called(turns) => calls::call_all(rt, hub, seats, turns),
+    }
+}
+
+fn at_brand<R: Threads + Wait + Abort + Sync>(
+    rt: &R,
+    alloc: Global,
+    actors: &[u32],
+    trial: Trial,
+) -> Result<(), Fail>
+    requires { length actors.now ≡ 2 }
+{
+    at::<Brand, Brand, _>(rt, alloc, Blank::new(3), Blank::new(3), actors, trial)
+}
+
+#[test]
+fn two_equal_actors_get_no_hub(rt: HostRuntime) -> Result<(), Fail> {
+    at_brand(&rt, rt.alloc(), &[900, 900], Trial::Refused)
+}
+
+#[test]
+fn hub_closes_with_all_its_seats(rt: HostRuntime) -> Result<(), Fail> {
+    at_brand(&rt, rt.alloc(), &[900, 10], Trial::Closed)
+}
+
+#[test]
+fn wait_ends_after_its_turns(rt: HostRuntime) -> Result<(), Fail> {
+    at_brand(&rt, rt.alloc(), &[900, 10], Trial::Tried)
+}
+
+#[test]
+fn waiter_wakes_when_another_thread_stops_the_tracee(rt: HostRuntime) -> Result<(), Fail> {
+    at_brand(&rt, rt.alloc(), &[900, 10], Trial::Waited)
+}
+
+#[test]
+fn attached_thread_stops_and_goes_on(rt: HostRuntime) -> Result<(), Fail> {
+    at_brand(&rt, rt.alloc(), &[900, 10], Trial::Called(&calls::ATTACHED))
+}
+
+#[test]
+fn killed_tracee_is_waited_for_twice(rt: HostRuntime) -> Result<(), Fail> {
+    at_brand(&rt, rt.alloc(), &[900, 1], Trial::Called(&calls::KILLED))
+}
