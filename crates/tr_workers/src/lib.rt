@@ -6,6 +6,7 @@ mod ports;
 mod receipts;
 mod same;
 mod scripts;
+mod seat_ports;
 mod settling;
 mod starts;
 mod working;
