@@ -4,15 +4,18 @@
 
 mod ports;
 mod receipts;
+mod runs;
 mod same;
 mod scripts;
 mod seat_ports;
 mod settling;
 mod starts;
+mod teams;
 mod working;
 
 pub use ports::{Gate, Port, Told};
 pub use receipts::Receipts;
+pub use runs::{RunFault, run};
 pub use scripts::{Item, Script};
 pub use settling::{Unsettled, settle};
 pub use working::{Ended, Tally, work};

@@ -1,6 +1,9 @@
-ghost use Rattle.std.specs.Prelude.{◌≡◌, ◌∷◌, [], MatchOption};
+ghost use Rattle.std.specs.Prelude.{◌≡◌, ◌==◌, ◌∷◌, [], IfOk, MatchOption, map};
+ghost use Rattle.std.specs.List.{list_any};
+ghost use Rattle.tr_table.specs.Starts.{no_repeat};
 ghost use Rattle.tr_workers.specs.Follows.{events_after, events_of};
 
+use std::alloc::{AllocError, Global};
 use std::marker::Model;
 use tr_model::Event;
 use tr_table::Items;
@@ -75,4 +78,36 @@ fn first_left(items: &[Item], done: u32) -> Option<(Event, &[Item], u32)>
         made = 0;
     }
     None
+}
+
+/// The actors of the scripts, in order.
+pub(crate) fn actors(alloc: Global, scripts: &[Script]) -> Result<Vec<u32>, AllocError>
+    ensures { IfOk result (λ list. list.items ≡ map (λ s. s.actor) scripts.now) }
+{
+    let mut list = Vec::new(alloc);
+    for script in scripts {
+        list.push(script.actor)?;
+    }
+    Ok(list)
+}
+
+/// Whether no two scripts are of one actor.
+pub(crate) fn are_distinct(scripts: &[Script]) -> bool
+    ensures { result ≡ no_repeat (map (λ s. s.actor) scripts.now) }
+{
+    let mut rest = scripts;
+    while let [script, later @ ..] = rest {
+        if has_actor(later, script.actor) {
+            return false;
+        }
+        rest = later;
+    }
+    true
+}
+
+/// Whether one of the scripts is of this actor.
+fn has_actor(scripts: &[Script], actor: u32) -> bool
+    ensures { result ≡ list_any (λ s. s.actor == actor) scripts.now }
+{
+    scripts.iter().any(|script| script.actor == actor)
 }
