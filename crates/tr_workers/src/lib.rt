@@ -5,7 +5,7 @@
 mod ports;
 mod receipts;
 mod runs;
-mod same;
+mod sameness;
 mod scripts;
 mod seat_ports;
 mod settling;
@@ -19,3 +19,6 @@ pub use runs::{RunFault, run};
 pub use scripts::{Item, Script};
 pub use settling::{Unsettled, settle};
 pub use working::{Ended, Tally, work};
+
+#[cfg(test)]
+mod tests;

@@ -7,7 +7,7 @@ ghost use Rattle.tr_workers.specs.Runs.{AreDone, tasks};
 
 use crate::ports::Gate;
 use crate::receipts::Receipts;
-use crate::same::Same;
+use crate::sameness::Same;
 use crate::scripts::{Script, actors, are_distinct};
 use crate::teams::{Team, work_on_threads};
 use std::alloc::{AllocError, Global};
