@@ -1,5 +1,5 @@
 -- What the lock keeps lasts over a step.
-use Rattle.std.proofs.Common.{◌≡◌, ℕ, ◌+◌, ◌≤◌, List, [], ◌∷◌, ◌++◌, length, refl, sym, ap, ◌∙◌, subst, arith, length-append}
+use Rattle.std.proofs.Common.{◌≡◌, ℕ, ◌+◌, ◌≤◌, List, [], ◌∷◌, ◌++◌, ◌<◌, length, refl, sym, ap, ◌∙◌, subst, arith, length-append}
 use Rattle.tr_model.specs.declared.events.Entry.{Entry}
 use Rattle.tr_model.specs.declared.events.Event.{Event}
 use Rattle.tr_model.specs.declared.replies.Refusal.TheVariants.{NoMemory, JournalFull}
@@ -13,6 +13,7 @@ use Rattle.tr_hub.specs.declared.answers.Answer.{Answer}
 use Rattle.tr_hub.specs.declared.answers.Answer.TheVariants.{Entered, Read, Refused}
 use Rattle.tr_hub.specs.declared.answers.Asked.{Asked}
 use Rattle.tr_hub.specs.Answers.{IfEntered, IfRead, IfRefused, IsReceipt, accepted_in, asked_after, entries_in}
+use Rattle.tr_hub.proofs.Limits.{limit_kept}
 use Rattle.tr_hub.specs.Kept.{AllLegal, Answers, HeldState, IsKept, IsLegal, Rises}
 
 -- More entries
@@ -45,13 +46,16 @@ rises_and_one low (x ∷ rest) high a r h = (r.0, rises_and_one x.position rest 
 
 -- Steps
 
-kept_entered : (h : HeldState) (actor : ℕ) (event : Event) (reply : Reply) (k : State) → IsKept h → IsHistory k → IsEntered h.kernel actor event reply k → IsKept (record { kernel = k; asked = h.asked })
-kept_entered h actor event reply k kept history e =
+kept_entered : (h : HeldState) (actor : ℕ) (event : Event) (reply : Reply) (k : State) → IsKept h → IsHistory k → IsEntered h.kernel actor event reply k → length h.kernel.journal < h.kernel.table.entries → IsKept (record { kernel = k; asked = h.asked })
+kept_entered h actor event reply k kept history e room =
     let entry = entry_of h.kernel actor event in
+    let longer = length-append h.kernel.journal (entry ∷ []) in
+    let limit = limit_kept h.kernel.table entry reply k.table e.step in
     record {
       history = history;
+      within = rw e.journal (omega arith);
       legal = rw (e.journal, e.start) (all_later (table_of h.kernel.start) h.kernel.journal (entry ∷ []) h.asked kept.legal);
-      rising = rises_later 0 h.asked (length h.kernel.journal) (length k.journal) kept.rising (rw e.journal (omega (arith, length-append h.kernel.journal (entry ∷ []))));
+      rising = rises_later 0 h.asked (length h.kernel.journal) (length k.journal) kept.rising (rw e.journal (omega arith));
     }
 
 kept_asked : (h : HeldState) (a : Asked) → IsKept h → a.position ≡ length h.kernel.journal → Answers h.kernel.table a.position a.actor a.event a.answer → IsKept (record { kernel = h.kernel; asked = h.asked ++ a ∷ [] })
@@ -60,21 +64,23 @@ kept_asked h a kept at l =
     let last : table_at (table_of k.start) k.journal a.position ≡ k.table = rw at (table_at_end (table_of k.start) k.table k.journal k.replies kept.history.replayed) in
     record {
       history = kept.history;
+      within = kept.within;
       legal = all_and_one (table_of k.start) k.journal h.asked a kept.legal (record { within = omega arith; answered = subst (λ (U : Table). Answers U a.position a.actor a.event a.answer) (sym last) l });
       rising = rises_and_one 0 h.asked (length k.journal) a kept.rising at;
     }
 
 pub kept_after : (h : HeldState) (actor : ℕ) (event : Event) (answer : Answer) (k : State) → IsKept h → IsHistory k
     → IfEntered answer (λ r. IsEntered h.kernel actor event r.reply k)
+    → IfEntered answer (λ r. length h.kernel.journal < h.kernel.table.entries)
     → IfRead answer (λ reply. IsQuiet h.kernel actor event reply k)
     → IfRefused answer (λ why. IsRefusal h.kernel actor event why)
     → IfRefused answer (λ why. k ≡ h.kernel)
     → IsKept (record { kernel = k; asked = asked_after h.asked actor event (length h.kernel.journal) answer })
-kept_after h actor event (Entered r) k kept history e q f u = kept_entered h actor event r.reply k kept history e
-kept_after h actor event (Read reply) k kept history e q f u = rw q.same (kept_asked h (record { actor = actor; event = event; position = length h.kernel.journal; answer = Read reply }) kept refl (q.no_cause, q.quiet))
-kept_after h actor event (Refused NoMemory) k kept history e q f u = rw u kept
-kept_after h actor event (Refused JournalFull) k kept history e q f u = rw u (kept_asked h (record { actor = actor; event = event; position = length h.kernel.journal; answer = Refused JournalFull }) kept refl (f.0.no_cause, f.0.not_quiet, f.1))
-kept_after h actor event (Refused why) k kept history e q f u = rw u (kept_asked h (record { actor = actor; event = event; position = length h.kernel.journal; answer = Refused why }) kept refl f)
+kept_after h actor event (Entered r) k kept history e room q f u = kept_entered h actor event r.reply k kept history e room
+kept_after h actor event (Read reply) k kept history e room q f u = rw q.same (kept_asked h (record { actor = actor; event = event; position = length h.kernel.journal; answer = Read reply }) kept refl (q.no_cause, q.quiet))
+kept_after h actor event (Refused NoMemory) k kept history e room q f u = rw u kept
+kept_after h actor event (Refused JournalFull) k kept history e room q f u = rw u (kept_asked h (record { actor = actor; event = event; position = length h.kernel.journal; answer = Refused JournalFull }) kept refl (f.0.no_cause, f.0.not_quiet, (let a = kept.within in let b = f.1 in omega arith)))
+kept_after h actor event (Refused why) k kept history e room q f u = rw u (kept_asked h (record { actor = actor; event = event; position = length h.kernel.journal; answer = Refused why }) kept refl f)
 
 -- Books
 

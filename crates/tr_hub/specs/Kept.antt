@@ -20,7 +20,7 @@ pub record HeldState : Type 0 where
 
 -- the model refuses so, on this table and with so many entries in the journal
 abbrev pub Refuses : Table → ℕ → ℕ → Event → Refusal → Type 0
-Refuses T position actor event JournalFull = (cause_of T actor event ≡ None) × (quiet_of T actor event ≡ None) × (T.entries ≤ position)
+Refuses T position actor event JournalFull = (cause_of T actor event ≡ None) × (quiet_of T actor event ≡ None) × (position ≡ T.entries)
 Refuses T position actor event NoMemory = ⊥
 Refuses T position actor event why = cause_of T actor event ≡ Some why
 
@@ -46,5 +46,12 @@ Rises low (asked ∷ rest) high = (low ≤ asked.position) × Rises asked.positi
 
 pub record IsKept (h : HeldState) : Type 0 where
   pub history : IsHistory h.kernel
+  pub within : length h.kernel.journal ≤ h.kernel.table.entries
   pub legal : AllLegal (table_of h.kernel.start) h.kernel.journal h.asked
   pub rising : Rises 0 h.asked (length h.kernel.journal)
+
+-- an answer that some kernel gives without an entry
+pub record IsPossible (actor : ℕ) (event : Event) (answer : Answer) : Type 0 where
+  pub kernel : State
+  pub history : IsHistory kernel
+  pub answered : Answers kernel.table (length kernel.journal) actor event answer

@@ -47,6 +47,7 @@ pub(crate) struct Opened<E: Parts, A: Parts> {
 }
 
 impl<E: Parts, A: Parts> Held<E, A> {
+    /// Nothing was entered or asked so far.
     pub(crate) fn new(
         alloc: Global,
         kernel: Kernel,
@@ -68,6 +69,7 @@ impl<E: Parts, A: Parts> Held<E, A> {
         }
     }
 
+    /// Its parts, with what they have kept.
     pub(crate) fn open(self) -> Opened<E, A>
         ensures kept { IsKept (record { kernel = result.kernel; asked = result.asked.items }) }
         ensures same { (result.kernel ≡ self.kernel) × (result.asked.items ≡ self.asked) }
@@ -104,6 +106,7 @@ impl<E: Parts, A: Parts> Held<E, A> {
         ensures read { IfRead result (λ reply. IsQuiet self.old.kernel seat.old.actor event reply self.new.kernel) }
         ensures refused { IfRefused result (λ why. why ≢ Refusal.NoMemory → IsRefusal self.old.kernel seat.old.actor event why) }
         ensures unchanged { IfRefused result (λ _. self.new.kernel ≡ self.old.kernel) }
+        ensures kept { IsKept self.new }
     {
         if self.asked.reserve(1).is_err() {
             return Answer::Refused(Refusal::NoMemory);

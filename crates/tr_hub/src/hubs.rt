@@ -1,6 +1,6 @@
-ghost use Rattle.std.specs.Prelude.{◌≡◌, ℕ, ◌≤◌, ◌<◌, ◌+◌, ◌↔◌, [], length, map, sum_by, vec_len, IfOk, IfErr, IsErr, IsErrOf};
-ghost use Rattle.tr_hub.specs.Answers.{IfEntered, IfRead};
-ghost use Rattle.tr_hub.specs.Kept.{IsKept};
+ghost use Rattle.std.specs.Prelude.{◌≡◌, ℕ, ◌≤◌, ◌<◌, ◌+◌, ◌↔◌, [], length, map, sum_by, vec_len, IfOk, IfErr, IsErr, IsErrOf, IsTrue};
+ghost use Rattle.tr_hub.specs.Answers.{IfEntered, IfRead, is_kept};
+ghost use Rattle.tr_hub.specs.Kept.{IsKept, IsPossible};
 ghost use Rattle.tr_hub.specs.Seats.{HasRepeat, event_of, new_seat, seat_after};
 
 use crate::answers::{Answer, Asked};
@@ -79,13 +79,16 @@ impl<E: Parts, A: Parts> Hub<E, A> {
         Ok((hub, seats))
     }
 
-    /// One event of a seat's actor, by `Held::step` under the lock. An entry wakes all that wait.
+    /// One event of a seat's actor, by `Held::step` under the lock, which is held for that step alone.
     ///
-    /// The lock is held for that step alone. That a reply or a refusal was got under the lock, and that the entry behind
-    /// a receipt is the receipt's, no clause here can say: tests show it, and of many calls the sums at `close`.
+    /// An entry adds one, and the signals that it accepted, to the seat, and wakes all that wait; after any other answer the
+    /// seat is as before. A reply, or a refusal but for want of memory, is one that some kernel gives. That it is of this
+    /// kernel, and that the entry behind a receipt is the receipt's, no clause here can say: tests show it, and of many calls
+    /// the sums at `close`.
     pub fn call<R: Wait>(&self, rt: &R, seat: &mut Seat<E, A>, event: Event) -> Answer
         ensures seat { seat.new ≡ seat_after seat.old result }
         ensures receipt { IfEntered result (λ r. (r.event ≡ event) × (r.accepted ≤ 1024)) }
+        ensures possible { IsTrue (is_kept result) → IsPossible seat.old.actor event result }
     {
         let answer = self.held.lock(rt).step(seat, event);
         if answer.is_entered() {
@@ -97,7 +100,7 @@ impl<E: Parts, A: Parts> Hub<E, A> {
     /// Tries a wait at most `turns` times, and waits for another entry between two tries; the first answer that isn't
     /// `Nothing`, or the last one. With 0 turns that is `Nothing`.
     ///
-    /// A try is `Held::step` under the lock, which is given back while it waits. That a waiter wakes only tests show.
+    /// A try is a `call`, but that the lock is held from the try until it waits. That a waiter wakes only tests show.
     pub fn wait_for<R: Wait>(
         &self,
         rt: &R,
@@ -108,6 +111,7 @@ impl<E: Parts, A: Parts> Hub<E, A> {
         ensures seat { seat.new ≡ seat_after seat.old result }
         ensures receipt { IfEntered result (λ r. (r.event ≡ event_of what) × (r.accepted ≤ 1024)) }
         ensures read { IfRead result (λ reply. reply ≡ Reply.Nothing) }
+        ensures possible { 0 < turns → IsTrue (is_kept result) → IsPossible seat.old.actor (event_of what) result }
         ensures none { turns ≡ 0 → result ≡ Answer.Read Reply.Nothing }
     {
         let event = what.event();

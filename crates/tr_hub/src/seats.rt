@@ -27,6 +27,7 @@ impl<E: Parts, A: Parts> Model for Seat<E, A> {
 }
 
 impl<E: Parts, A: Parts> Seat<E, A> {
+    /// A seat with one part of each ledger.
     pub(crate) fn new(actor: u32, shares: Shares<E, A>) -> Seat<E, A>
         requires { (shares.entries.parts ≡ 1) × (shares.accepted.parts ≡ 1) }
         ensures { result ≡ record { actor = actor; entries = shares.entries.amount; accepted = shares.accepted.amount } }

@@ -1,6 +1,6 @@
 use Rattle.std.proofs.Common.{arith}
 use Rattle.tr_hub.proofs.Keeping.{accepted_booked, entries_booked, kept_after}
-use Rattle.tr_hub.specs.Kept.{HeldState}
+use Rattle.tr_hub.specs.Kept.{HeldState, IsKept}
 use Rattle.tr_hub.proofs.held.Held.step.Goals as goal
 
 pub invariant_of-self-2 : goal.invariant_of-self-2
@@ -15,4 +15,13 @@ invariant_of-self-2 g c =
     let entries = entries_booked h.kernel actor event answer new e.entered e.read e.unchanged in
     let accepted = accepted_booked h.kernel actor event answer new e.receipt e.read e.unchanged in
     rw (c.keep.ensures, c.reserve.ensures.items, c.journal.ensures.entries)
-    (kept_after h actor event answer new i.0 e.history e.entered e.read e.refused e.unchanged, omega (arith, c.add.ensures.entries), omega (arith, c.add.ensures.accepted), i.3, i.4, i.5, i.6)
+    (kept_after h actor event answer new i.0 e.history e.entered e.room e.read e.refused e.unchanged, omega (arith, c.add.ensures.entries), omega (arith, c.add.ensures.accepted), i.3, i.4, i.5, i.6)
+
+pub returns-clause-kept : goal.returns-clause-kept
+returns-clause-kept g c =
+    let h : HeldState = record { kernel = c.self.inside.kernel; asked = c.self.inside.asked.items } in
+    let e = c.called-answer.ensures in
+    let kept : IsKept (record { kernel = c.called-answer.new.kernel; asked = c.keep.new.asked.items }) =
+    rw (c.keep.ensures, c.reserve.ensures.items, c.journal.ensures.entries)
+    (kept_after h c.actor-actor.result c.args.event c.called-answer.result c.called-answer.new.kernel c.self.invariant.0 e.history e.entered e.room e.read e.refused e.unchanged) in
+    kept
