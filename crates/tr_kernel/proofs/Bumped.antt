@@ -1,6 +1,6 @@
 -- How often ids have passed on, with one of them once more.
 use Rattle.std.proofs.Common.{◌≡◌, ℕ, zero, suc, ◌+◌, ◌<◌, List, [], ◌∷◌, ◌++◌, length, take, drop, Bool, true, false, ◌==◌, if◌then◌else◌, get_or, set, refl, sym, ap, ◌∙◌, arith}
-use Rattle.std.proofs.lemmas.Bool.{eq-eqb, eqb-true, eqb-false, ne_eqb}
+use Rattle.std.proofs.lemmas.Bool.{eq-eqb, eqb-true, eqb-false}
 use Rattle.tr_model.specs.Journals.{occurs}
 use Rattle.tr_kernel.specs.declared.notes.Passed.{Passed}
 use Rattle.tr_kernel.specs.Notes.{all_bumped, bumped, times}

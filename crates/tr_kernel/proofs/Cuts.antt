@@ -1,13 +1,13 @@
 -- A journal that replays, cut at a position.
-use Rattle.std.proofs.Common.{◌≡◌, ℕ, zero, suc, ◌+◌, ◌<◌, ◌≤◌, List, [], ◌∷◌, ◌++◌, length, take, drop, Option, Some, None, refl, sym, ap, ◌∙◌, subst, arith, ◌⊎◌, inl, inr, append-nil, append_assoc}
-use Rattle.std.specs.Prelude.{slice_get, ◌-◌}
+use Rattle.std.proofs.Common.{◌≡◌, ℕ, zero, suc, ◌+◌, ◌<◌, ◌≤◌, List, [], ◌∷◌, ◌++◌, length, take, drop, Some, None, refl, sym, ap, ◌∙◌, subst, arith, inl, inr, append-nil, append_assoc}
+use Rattle.std.specs.Prelude.{slice_get}
 use Rattle.tr_model.specs.declared.events.Entry.{Entry}
 use Rattle.tr_model.specs.declared.replies.Reply.{Reply}
 use Rattle.tr_model.specs.Journals.{IsIn, Replay, killed_by, renamed_by}
 use Rattle.tr_model.specs.Steps.{Step, work_of}
 use Rattle.tr_model.specs.Tables.{Table}
 use Rattle.tr_kernel.specs.Notes.{dying_by}
-use Rattle.tr_kernel.specs.Positions.{entry_at, table_at}
+use Rattle.tr_kernel.specs.Positions.{table_at}
 
 some_entry : (x y : Entry) → Some x ≡ Some y → x ≡ y
 some_entry x y e = cc

@@ -1,5 +1,5 @@
 -- After a KILL.
-use Rattle.std.proofs.Common.{◌≡◌, ℕ, zero, suc, ◌<◌, ◌≤◌, length, take, None, Some, arith}
+use Rattle.std.proofs.Common.{◌≡◌, ℕ, zero, suc, ◌≤◌, length, take, None, Some, arith}
 use Rattle.tr_model.specs.declared.events.Entry.{Entry}
 use Rattle.tr_model.proofs.Dying.{only_dying}
 use Rattle.tr_table.specs.Starts.{table_of}

@@ -1,5 +1,5 @@
 -- What the notes tell of the entry at a position.
-use Rattle.std.proofs.Common.{◌≡◌, ℕ, zero, suc, ◌+◌, ◌-◌, ◌<◌, ◌≤◌, List, [], ◌∷◌, ◌++◌, length, take, drop, Option, Some, None, refl, sym, ap, ap₂, ◌∙◌, subst, arith, ◌⊎◌, inl, inr, ◌↔◌, Bool, true, false, true≢false, append-nil, append_assoc, length-append}
+use Rattle.std.proofs.Common.{◌≡◌, ℕ, zero, suc, ◌+◌, ◌-◌, ◌≤◌, List, [], ◌∷◌, ◌++◌, length, take, Option, Some, None, refl, sym, ap, ap₂, ◌∙◌, subst, arith, inl, ◌↔◌, true, true≢false, append-nil, append_assoc, length-append}
 use Rattle.std.specs.Prelude.{slice_get}
 use Rattle.tr_model.specs.declared.events.Entry.{Entry}
 use Rattle.tr_model.specs.Journals.{IsIn, renamed_by}
@@ -10,7 +10,7 @@ use Rattle.tr_kernel.specs.declared.notes.Mark.TheVariants.{Nothing}
 use Rattle.tr_kernel.specs.declared.notes.Note.{Note}
 use Rattle.tr_kernel.specs.Laws.{KillsAt}
 use Rattle.tr_kernel.specs.Notes.{dying_by, is_some_group, mark_of, note_of, notes_from, notes_of}
-use Rattle.tr_kernel.specs.Positions.{entry_at, table_at}
+use Rattle.tr_kernel.specs.Positions.{table_at}
 use Rattle.tr_kernel.specs.Restarts.{AreOrdered, deaths_in, deaths_to, killed_in, mark_at, mark_in}
 use Rattle.tr_kernel.proofs.Cuts.{some_there, there}
 
@@ -106,6 +106,7 @@ kills_exactly T es (suc k) o none at = go (slice_get es k) refl
     go None h = rw (note, no_note T [] 0 es k h) ((λ e. absurd (true≢false (sym e))), λ q. absurd (none_entry q.1.0 (sym h ∙ q.1.1)))
     go (Some e) h =
         let s = some_group (work_of (table_at T es k) e).killed in
-        let m : killed_in o ≡ is_some_group (work_of (table_at T es k) e).killed = ap killed_in (note ∙ note_is T es k e h) in
-        ( (λ t. let i = s.0 (sym m ∙ t) in (i.0, (e, h, i.1)))
-        , λ q. m ∙ s.1 (q.0, subst (λ y. IsIn q.0 (work_of (table_at T es k) y).killed) (some_entry q.1.0 e (sym q.1.1 ∙ h)) q.1.2) )
+        let m : killed_in o ≡ is_some_group (work_of (table_at T es k) e).killed = ap killed_in (note ∙ note_is T es k e h) in (
+          (λ t. let i = s.0 (sym m ∙ t) in (i.0, (e, h, i.1))),
+          λ q. m ∙ s.1 (q.0, subst (λ y. IsIn q.0 (work_of (table_at T es k) y).killed) (some_entry q.1.0 e (sym q.1.1 ∙ h)) q.1.2),
+        )

@@ -1,6 +1,5 @@
 -- The notes of one entry more.
 use Rattle.std.proofs.Common.{◌≡◌, ℕ, ◌+◌, ◌<◌, ◌≤◌, ◌^◌, List, [], ◌∷◌, ◌++◌, length, Ok, Some, None, Option, refl, sym, ap, ap₂, ◌∙◌, subst, arith, append_assoc, append-nil, length-append, Bool, true, false, ◌&&◌, ◌==◌, if◌then◌else◌, not}
-use Rattle.tr_pending.specs.declared.instance.Instance.{Instance}
 use Rattle.tr_pending.specs.Waiting.{best_of}
 use Rattle.tr_tracee.specs.declared.thread.Thread.{Thread}
 use Rattle.tr_tracee.specs.Lives.{is_execing}
@@ -14,7 +13,7 @@ use Rattle.tr_model.specs.declared.replies.Reply.{Reply}
 use Rattle.tr_model.specs.declared.replies.Reply.TheVariants as reply
 use Rattle.tr_model.specs.declared.rows.Target.{Target}
 use Rattle.tr_model.specs.declared.rows.Target.TheVariants as target
-use Rattle.tr_model.specs.Journals.{DistinctIds, IsSorted, Replay, Taken, occurs, renamed_by, taken_by, taken_of}
+use Rattle.tr_model.specs.Journals.{DistinctIds, IsSorted, Replay, occurs, renamed_by, taken_by, taken_of}
 use Rattle.tr_model.specs.Moves.{instance_in}
 use Rattle.tr_model.specs.Preferred.{check}
 use Rattle.tr_model.specs.Steps
@@ -29,7 +28,6 @@ use Rattle.tr_signals.specs.Takes.{queue_of}
 use Rattle.tr_signals.proofs.Taking.{IsDue, is_due}
 use Rattle.tr_signals.proofs.TakingAny.{is_due_any}
 use Rattle.tr_table.specs.Starts.{table_of}
-use Rattle.tr_kernel.specs.declared.notes.Mark.{Mark}
 use Rattle.tr_kernel.specs.declared.notes.Mark.TheVariants.{Nothing, Take}
 use Rattle.tr_kernel.specs.declared.notes.Note.{Note}
 use Rattle.tr_kernel.specs.declared.notes.Passed.{Passed}
@@ -148,12 +146,12 @@ noted_goes_on k x ns gs ps h n d =
     let sorted = waiting_is_sorted T k.table k.journal k.replies start h.replayed in
     let distinct = ids_are_distinct T k.table k.journal k.replies start h.replayed in
     let one : noted ps (length gs) k.table x ≡ note_of (renamed_by T k.journal) (length (dying_by T k.journal)) k.table x
-      = noted_is k.table (renamed_by T k.journal) ps n.passed sorted distinct (length gs) x d ∙ ap (λ y. note_of (renamed_by T k.journal) (length y) k.table x) n.dying in
+    = noted_is k.table (renamed_by T k.journal) ps n.passed sorted distinct (length gs) x d ∙ ap (λ y. note_of (renamed_by T k.journal) (length y) k.table x) n.dying in
     record {
       notes = ap₂ (λ xs y. xs ++ y ∷ []) n.notes one ∙ sym (all_notes_push T k.table k.journal k.replies x h.replayed);
       dying = ap (λ y. y ++ (work_of k.table x).dying) n.dying ∙ sym (dying_push T k.table k.journal k.replies x h.replayed);
       passed = λ id.
-        times_all id (passed_by k.table x.event) ps
-        ∙ (ap₂ (λ a b. a + b) (n.passed id) (ap (occurs id) (sym (passed_is k.table x)))
-        ∙ (sym (occurs-append id (renamed_by T k.journal) (work_of k.table x).renamed) ∙ ap (occurs id) (sym (renamed_push T k.table k.journal k.replies x h.replayed))));
+          times_all id (passed_by k.table x.event) ps
+          ∙ (ap₂ (λ a b. a + b) (n.passed id) (ap (occurs id) (sym (passed_is k.table x)))
+          ∙ (sym (occurs-append id (renamed_by T k.journal) (work_of k.table x).renamed) ∙ ap (occurs id) (sym (renamed_push T k.table k.journal k.replies x h.replayed))));
     }

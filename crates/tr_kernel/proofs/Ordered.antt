@@ -1,8 +1,7 @@
 -- Two takes from one queue, by the notes.
-use Rattle.std.proofs.Common.{◌≡◌, ℕ, zero, suc, ◌+◌, ◌<◌, ◌≤◌, List, [], ◌∷◌, ◌++◌, length, take, drop, Option, Some, None, refl, sym, ap, ◌∙◌, subst, arith, ◌⊎◌, inl, inr, Bool, true, false, ◌==◌, if◌then◌else◌, append-nil}
+use Rattle.std.proofs.Common.{◌≡◌, ℕ, zero, suc, ◌+◌, ◌<◌, ◌≤◌, List, [], ◌∷◌, ◌++◌, take, drop, Option, Some, None, refl, sym, ap, ◌∙◌, subst, arith, inl, inr, Bool, true, false, ◌==◌, if◌then◌else◌, append-nil}
 use Rattle.std.proofs.lemmas.Bool.{eq-eqb, eqb-true}
 use Rattle.std.specs.Prelude.{slice_get}
-use Rattle.tr_tracee.specs.declared.thread.Report.{Report}
 use Rattle.tr_tracee.specs.declared.thread.Thread.{Thread}
 use Rattle.tr_model.specs.declared.events.Choice.{Choice}
 use Rattle.tr_model.specs.declared.events.Entry.{Entry}
@@ -26,11 +25,11 @@ use Rattle.tr_kernel.specs.declared.notes.Stopped.{Stopped}
 use Rattle.tr_kernel.specs.declared.notes.TakenFrom.{TakenFrom}
 use Rattle.tr_kernel.specs.Laws.{TakenInOrder, TakesAt, TwoTakes}
 use Rattle.tr_kernel.specs.Notes.{exec_mark, mark_of, notes_of, passes, shows_stop, stop_mark, take_mark}
-use Rattle.tr_kernel.specs.Positions.{between, entry_at, table_at}
+use Rattle.tr_kernel.specs.Positions.{between, table_at}
 use Rattle.tr_kernel.specs.Restarts.{SameQueue, mark_at}
 use Rattle.tr_kernel.specs.States.{IsHistory, State}
 use Rattle.tr_kernel.proofs.Begun.{is_start}
-use Rattle.tr_kernel.proofs.Cuts.{cut, get_take, renamed_next, renamed_split, replay_to, table_take, there}
+use Rattle.tr_kernel.proofs.Cuts.{cut, get_take, renamed_next, renamed_split, table_take}
 use Rattle.tr_kernel.proofs.Noticed.{mark_is, marked_there}
 
 none_entry : (e : Entry) → None ≡ Some e → ⊥
@@ -123,7 +122,7 @@ passed_between : (T : Table) (es : List Entry) (i j : ℕ) (e : Entry) (k : Take
 passed_between T es i j e k l q t id =
     let s = renamed_split T (take j es) (suc i) in
     let n : renamed_by T (take (suc i) (take j es)) ≡ renamed_by T (take i es)
-      = ap (renamed_by T) (take_take es i j l) ∙ (renamed_next T es i e q ∙ (ap (λ ys. renamed_by T (take i es) ++ ys) (take_renames_nothing (table_at T es i) e.actor e.event e.choice k t) ∙ append-nil (renamed_by T (take i es)))) in
+    = ap (renamed_by T) (take_take es i j l) ∙ (renamed_next T es i e q ∙ (ap (λ ys. renamed_by T (take i es) ++ ys) (take_renames_nothing (table_at T es i) e.actor e.event e.choice k t) ∙ append-nil (renamed_by T (take i es)))) in
     ap (occurs id) s ∙ (occurs-append id (renamed_by T (take (suc i) (take j es))) (renamed_by (table_at T (take j es) (suc i)) (drop (suc i) (take j es)))
     ∙ (ap (λ ys. occurs id ys + occurs id (renamed_by (table_at T (take j es) (suc i)) (drop (suc i) (take j es)))) n
     ∙ ap (λ M. occurs id (renamed_by T (take i es)) + occurs id (renamed_by M (drop (suc i) (take j es)))) (table_take T es j (suc i) (omega arith))))
@@ -171,10 +170,19 @@ two_by_notes T es i j x y m n l s =
     let signal : a.kind.signal ≡ b.kind.signal = sym (ap (λ (z : TakenFrom). z.signal) a.noted) ∙ (s.signal ∙ ap (λ (z : TakenFrom). z.signal) b.noted) in
     let queue : a.kind.queue ≡ b.kind.queue = sym (ap (λ (z : TakenFrom). z.queue) a.noted) ∙ (s.queue ∙ ap (λ (z : TakenFrom). z.queue) b.noted) in
     let passed : passes (renamed_by T (take a.place es)) a.kind.queue ≡ passes (renamed_by T (take b.place es)) a.kind.queue
-      = sym (ap (λ (z : TakenFrom). z.passed) a.noted) ∙ (s.passed ∙ (ap (λ (z : TakenFrom). z.passed) b.noted ∙ ap (passes (renamed_by T (take b.place es))) (sym queue))) in
-    let keep = keeps_by T es a.place b.place a.entry a.kind (omega (arith, a.position, b.position)) a.found a.took a.kind.queue passed in
-    (l, (a.kind, b.kind, takes_at T es i x a, takes_at T es j y b, signal, queue,
-      subst (λ p. PassesOn a.kind.queue (renamed_by (table_at T es p) (between es p j)) → ⊥) (sym a.position) (subst (λ q. PassesOn a.kind.queue (renamed_by (table_at T es (suc a.place)) (between es (suc a.place) q)) → ⊥) (sym b.position) keep)))
+    = sym (ap (λ (z : TakenFrom). z.passed) a.noted) ∙ (s.passed ∙ (ap (λ (z : TakenFrom). z.passed) b.noted ∙ ap (passes (renamed_by T (take b.place es))) (sym queue))) in
+    let keep = keeps_by T es a.place b.place a.entry a.kind (omega (arith, a.position, b.position)) a.found a.took a.kind.queue passed in (
+      l,
+      (
+        a.kind,
+        b.kind,
+        takes_at T es i x a,
+        takes_at T es j y b,
+        signal,
+        queue,
+        subst (λ p. PassesOn a.kind.queue (renamed_by (table_at T es p) (between es p j)) → ⊥) (sym a.position) (subst (λ q. PassesOn a.kind.queue (renamed_by (table_at T es (suc a.place)) (between es (suc a.place) q)) → ⊥) (sym b.position) keep),
+      ),
+    )
 
 pub notes_of_two : (T : Table) (es : List Entry) (i j : ℕ) → TwoTakes T es i j → (i < j) × ((x y : TakenFrom) × (mark_at (notes_of T es) i ≡ Take x) × (mark_at (notes_of T es) j ≡ Take y) × SameQueue x y)
 notes_of_two T es zero j w = absurd (none_entry w.1.2.0 w.1.2.1)
@@ -187,11 +195,16 @@ notes_of_two T es (suc i) (suc j) w =
     let signal = w.1.4 in
     let queue = w.1.5 in
     let keep = w.1.6 in
-    let less : i < j = omega (arith, w.0) in
-    (w.0, (as_noted (renamed_by T (take i es)) k, as_noted (renamed_by T (take j es)) l,
-      mark_is T es i a.0 a.1 ∙ takes_mark (renamed_by T (take i es)) (table_at T es i) a.0.actor a.0.event a.0.choice k a.2,
-      mark_is T es j b.0 b.1 ∙ takes_mark (renamed_by T (take j es)) (table_at T es j) b.0.actor b.0.event b.0.choice l b.2,
-      record { signal = signal; queue = queue; passed = by_keeping T es i j a.0 k less a.1 a.2 k.queue keep ∙ ap (passes (renamed_by T (take j es))) queue }))
+    let less : i < j = omega (arith, w.0) in (
+      w.0,
+      (
+        as_noted (renamed_by T (take i es)) k,
+        as_noted (renamed_by T (take j es)) l,
+        mark_is T es i a.0 a.1 ∙ takes_mark (renamed_by T (take i es)) (table_at T es i) a.0.actor a.0.event a.0.choice k a.2,
+        mark_is T es j b.0 b.1 ∙ takes_mark (renamed_by T (take j es)) (table_at T es j) b.0.actor b.0.event b.0.choice l b.2,
+        record { signal = signal; queue = queue; passed = by_keeping T es i j a.0 k less a.1 a.2 k.queue keep ∙ ap (passes (renamed_by T (take j es))) queue },
+      ),
+    )
 
 same_taken : (T : Table) (es : List Entry) (p : ℕ) (x y : Taken) → TakesAt T es (suc p) x → TakesAt T es (suc p) y → x ≡ y
 same_taken T es p x y u v = some_taken x y (sym u.2 ∙ (ap (taken (table_at T es p)) (some_entry u.0 v.0 (sym u.1 ∙ v.1)) ∙ v.2))
@@ -207,7 +220,7 @@ taken_in_order k h (suc i) (suc j) w m n a b =
     let second = cut j T k.table es k.replies b.0 h.replayed b.1 in
     let inner = cut i T (table_at T es j) (take j es) (take j k.replies) a.0 second.earlier (get_take es j i less ∙ a.1) in
     let between_them : Replay (table_at T es (suc i)) (drop (suc i) (take j es)) (drop (suc i) (take j k.replies)) (table_at T es j)
-      = subst (λ M. Replay M (drop (suc i) (take j es)) (drop (suc i) (take j k.replies)) (table_at T es j)) (table_take T es j (suc i) (omega arith)) inner.later in
+    = subst (λ M. Replay M (drop (suc i) (take j es)) (drop (suc i) (take j k.replies)) (table_at T es j)) (table_take T es j (suc i) (omega arith)) inner.later in
     let x = same_taken T es i w.1.0 m w.1.2 a in
     let y = same_taken T es j w.1.1 n w.1.3 b in
     let signal : m.signal ≡ n.signal = ap (λ (z : Taken). z.signal) (sym x) ∙ (w.1.4 ∙ ap (λ (z : Taken). z.signal) y) in

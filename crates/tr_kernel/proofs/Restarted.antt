@@ -1,5 +1,5 @@
 -- A restart between two stops, by the notes.
-use Rattle.std.proofs.Common.{◌≡◌, ◌≢◌, ℕ, zero, suc, ◌+◌, ◌-◌, ◌<◌, ◌≤◌, List, [], ◌∷◌, ◌++◌, length, take, drop, get_or, Option, Some, None, refl, sym, ap, ap₂, ◌∙◌, subst, arith, ◌⊎◌, inl, inr, ◌↔◌, Bool, true, false, true≢false, not, ◌&&◌, ◌||◌, ◌==◌, if◌then◌else◌}
+use Rattle.std.proofs.Common.{◌≡◌, ◌≢◌, ℕ, zero, suc, ◌+◌, ◌-◌, ◌<◌, ◌≤◌, List, [], ◌∷◌, length, take, drop, get_or, Option, Some, None, refl, sym, ap, ap₂, ◌∙◌, subst, arith, ◌⊎◌, inl, inr, ◌↔◌, Bool, true, false, true≢false, not, ◌&&◌, ◌||◌, ◌==◌, if◌then◌else◌}
 use Rattle.std.proofs.lemmas.Bool.{and_parts, eq-eqb, eqb-true, eqb-false, ne_eqb}
 use Rattle.std.specs.List.{list_any}
 use Rattle.std.specs.Prelude.{IfSome, IsSome, slice_get}
@@ -13,7 +13,6 @@ use Rattle.tr_model.specs.declared.events.Event.{Event}
 use Rattle.tr_model.specs.declared.events.Event.TheVariants as event
 use Rattle.tr_model.specs.Journals.{IsIn, Replay, Taken, renamed_by, taken_of}
 use Rattle.tr_model.specs.Laws.{ConsumesStop, IsRestart, IsStopStatus, Restarts, SomeRestarts}
-use Rattle.tr_model.specs.Steps
 use Rattle.tr_model.specs.Steps.{Admits, number, work_of}
 use Rattle.tr_model.specs.Tables.{Table, thread_of}
 use Rattle.tr_model.specs.Waits.{ready_thread}
@@ -22,12 +21,11 @@ use Rattle.tr_table.specs.Starts.{table_of}
 use Rattle.tr_wait.specs.declared.waits.Which.{Which}
 use Rattle.tr_kernel.specs.declared.notes.Mark.{Mark}
 use Rattle.tr_kernel.specs.declared.notes.Mark.TheVariants.{Nothing, Stop, Take, Exec}
-use Rattle.tr_kernel.specs.declared.notes.Note.{Note}
 use Rattle.tr_kernel.specs.declared.notes.Stopped.{Stopped}
 use Rattle.tr_kernel.specs.declared.notes.TakenFrom.{TakenFrom}
 use Rattle.tr_kernel.specs.Laws.{RestartBetween, RestartsAt, StopsAt, TwoStops}
-use Rattle.tr_kernel.specs.Notes.{dying_by, exec_mark, is_stop_status, mark_of, note_of, notes_of, shows_stop, stop_mark, take_mark}
-use Rattle.tr_kernel.specs.Positions.{between, entry_at, table_at}
+use Rattle.tr_kernel.specs.Notes.{dying_by, exec_mark, is_stop_status, mark_of, notes_of, shows_stop, stop_mark, take_mark}
+use Rattle.tr_kernel.specs.Positions.{entry_at, table_at}
 use Rattle.tr_kernel.specs.Restarts.{IsRestartAt, deaths_to, is_exec_in, is_restart, mark_at, restarts_at, restarts_here}
 use Rattle.tr_kernel.specs.States.{IsHistory, State}
 use Rattle.tr_kernel.proofs.Begun.{is_start}
@@ -209,9 +207,9 @@ restarts_is s a T es k e q =
     let ids = renamed_by T (take k es) in
     let M = table_at T es k in
     let gs : take (deaths_to (notes_of T es) (suc k) - deaths_to (notes_of T es) k) (drop (deaths_to (notes_of T es) k) (dying_by T es)) ≡ (work_of M e).dying
-      = ap₂ (λ n d. take n (drop d (dying_by T es))) (deaths_after T es k e q) (deaths_is T es k (let l = there es k e q in omega arith)) ∙ dying_there T es k e q in
+    = ap₂ (λ n d. take n (drop d (dying_by T es))) (deaths_after T es k e q) (deaths_is T es k (let l = there es k e q in omega arith)) ∙ dying_there T es k e q in
     let same : restarts_at s a es (notes_of T es) (dying_by T es) k ≡ (is_restart s a e.actor e.event (mark_of ids M e.actor e.event e.choice) || list_any (λ h. h == s.group) (work_of M e).dying)
-      = ap₂ (λ o n. restarts_here s a o n (take (deaths_to (notes_of T es) (suc k) - deaths_to (notes_of T es) k) (drop (deaths_to (notes_of T es) k) (dying_by T es)))) q (note_is T es k e q) ∙ ap (λ ys. is_restart s a e.actor e.event (mark_of ids M e.actor e.event e.choice) || list_any (λ h. h == s.group) ys) gs in
+    = ap₂ (λ o n. restarts_here s a o n (take (deaths_to (notes_of T es) (suc k) - deaths_to (notes_of T es) k) (drop (deaths_to (notes_of T es) k) (dying_by T es)))) q (note_is T es k e q) ∙ ap (λ ys. is_restart s a e.actor e.event (mark_of ids M e.actor e.event e.choice) || list_any (λ h. h == s.group) ys) gs in
     rw same (either_is _ _ (IsRestart s.thread a s.group M e.actor e.event) (IsIn s.group (work_of M e).dying) (restart_is s a ids M e.actor e.event e.choice) (any_in s.group (work_of M e).dying))
 
 -- The law
@@ -238,7 +236,7 @@ restart_there k h (suc i) (suc j) s m (l, (e, f, t, u, a, b, same)) =
     let second = cut j T k.table es k.replies f h.replayed b.0 in
     let inner = cut i T (table_at T es j) (take j es) (take j k.replies) e second.earlier (get_take es j i less ∙ a.0) in
     let between_them : Replay (table_at T es (suc i)) (drop (suc i) (take j es)) (drop (suc i) (take j k.replies)) (table_at T es j)
-      = subst (λ M. Replay M (drop (suc i) (take j es)) (drop (suc i) (take j k.replies)) (table_at T es j)) (table_take T es j (suc i) (omega arith)) inner.later in
+    = subst (λ M. Replay M (drop (suc i) (take j es)) (drop (suc i) (take j k.replies)) (table_at T es j)) (table_take T es j (suc i) (omega arith)) inner.later in
     let law = restart_stands T (table_at T es i) (table_at T es (suc i)) (table_at T es j) (take i es) (drop (suc i) (take j es)) (take i k.replies) (drop (suc i) (take j k.replies)) e f first.reply t u (is_start k.start h.good) first.earlier first.step a.1 between_them b.1 same in
     let p = some_place t.id e.actor t.group (table_at T es (suc i)) (drop (suc i) (take j es)) law in
     let place = suc i + p.0 in
@@ -246,22 +244,27 @@ restart_there k h (suc i) (suc j) s m (l, (e, f, t, u, a, b, same)) =
     let bound : place < j = taken_short es j place p.1 in_front in
     let found : slice_get es place ≡ Some p.1 = sym (get_take es j place bound) ∙ in_front in
     let table : table_at (table_at T es (suc i)) (drop (suc i) (take j es)) p.0 ≡ table_at T es place
-      = ap (λ M. table_at M (drop (suc i) (take j es)) p.0) (sym (table_take T es j (suc i) (omega arith))) ∙ (table_drop T (take j es) (suc i) p.0 ∙ table_take T es j place (omega (arith, bound))) in
-    let stopped : s ≡ as_stopped t = same_stop s (as_stopped t) (sym m ∙ noted_stop T es (suc i) e t a) in
-    (suc place, record {
-      later = omega arith;
-      earlier = omega (arith, bound);
-      restarts = λ x q.
-        (p.1, found, subst (λ (z : Stopped). Restarts z.thread x.actor z.group (table_at T es place) p.1) (sym stopped)
-          (subst (λ (y : Entry). Restarts t.id y.actor t.group (table_at T es place) p.1) (some_entry e x (sym a.0 ∙ q)) (subst (λ M. Restarts t.id e.actor t.group M p.1) table p.3)));
-    })
+    = ap (λ M. table_at M (drop (suc i) (take j es)) p.0) (sym (table_take T es j (suc i) (omega arith))) ∙ (table_drop T (take j es) (suc i) p.0 ∙ table_take T es j place (omega (arith, bound))) in
+    let stopped : s ≡ as_stopped t = same_stop s (as_stopped t) (sym m ∙ noted_stop T es (suc i) e t a) in (
+      suc place,
+      record {
+        later = omega arith;
+        earlier = omega (arith, bound);
+        restarts = λ x q. (
+          p.1,
+          found,
+          subst (λ (z : Stopped). Restarts z.thread x.actor z.group (table_at T es place) p.1) (sym stopped)
+              (subst (λ (y : Entry). Restarts t.id y.actor t.group (table_at T es place) p.1) (some_entry e x (sym a.0 ∙ q)) (subst (λ M. Restarts t.id e.actor t.group M p.1) table p.3)),
+        );
+      },
+    )
 
 pub restart_lies_between : (k : State) (i j : ℕ) (s : Stopped) (n : ℕ) → mark_at (notes_of (table_of k.start) k.journal) i ≡ Stop s → IsRestartAt (table_of k.start) k.journal i j s n → RestartBetween (table_of k.start) k.journal i j n
 restart_lies_between k i j s n m r = record {
   later = r.later;
   earlier = r.earlier;
   restarts = λ e t x.
-    subst (λ (z : Stopped). RestartsAt (table_of k.start) k.journal n z.thread e.actor z.group) (same_stop s (as_stopped t) (sym m ∙ noted_stop (table_of k.start) k.journal i e t x)) (r.restarts e x.0);
+      subst (λ (z : Stopped). RestartsAt (table_of k.start) k.journal n z.thread e.actor z.group) (same_stop s (as_stopped t) (sym m ∙ noted_stop (table_of k.start) k.journal i e t x)) (r.restarts e x.0);
 }
 
 -- The walk between

@@ -1,13 +1,12 @@
 -- What waits consumed, by their positions.
-use Rattle.std.proofs.Common.{◌≡◌, ◌≢◌, ℕ, zero, suc, ◌+◌, ◌-◌, ◌<◌, ◌≤◌, List, [], ◌∷◌, ◌++◌, length, take, Option, Some, None, refl, sym, ap, ◌∙◌, subst, arith, ◌⊎◌, inl, inr, ◌↔◌, true≢false, Bool, true, false, ◌==◌, if◌then◌else◌}
+use Rattle.std.proofs.Common.{◌≡◌, ◌≢◌, ℕ, zero, suc, ◌+◌, ◌-◌, ◌<◌, ◌≤◌, List, [], ◌∷◌, take, Option, Some, None, refl, sym, ap, ◌∙◌, subst, arith, ◌⊎◌, inl, inr, ◌↔◌, true≢false, Bool, true, false, ◌==◌, if◌then◌else◌}
 use Rattle.std.proofs.lemmas.Bool.{eq-eqb}
 use Rattle.std.specs.Prelude.{IfSome, IsSome, slice_get}
 use Rattle.tr_model.specs.declared.events.Choice.{Choice}
 use Rattle.tr_model.specs.declared.events.Entry.{Entry}
 use Rattle.tr_model.specs.declared.events.Event.{Event}
 use Rattle.tr_model.specs.declared.events.Event.TheVariants as event
-use Rattle.tr_model.specs.declared.replies.Reply.{Reply}
-use Rattle.tr_model.specs.Journals.{IsIn, Replay, consumed, consumed_by, consumed_of, occurs}
+use Rattle.tr_model.specs.Journals.{IsIn, consumed, consumed_by, consumed_of, occurs}
 use Rattle.tr_model.specs.Steps.{Admits}
 use Rattle.tr_model.specs.Tables.{Table}
 use Rattle.tr_model.proofs.OneFate.{occurs-append}

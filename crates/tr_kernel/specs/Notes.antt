@@ -15,7 +15,6 @@ use Rattle.tr_model.specs.declared.replies.Reply.TheVariants as reply
 use Rattle.tr_model.specs.declared.rows.Target.{Target}
 use Rattle.tr_model.specs.declared.rows.Target.TheVariants as target
 use Rattle.tr_model.specs.Journals.{Taken, occurs, renamed_by, taken, taken_of}
-use Rattle.tr_model.specs.Moves.{Work}
 use Rattle.tr_model.specs.Steps.{after, number, work_of}
 use Rattle.tr_model.specs.Tables.{Table, thread_of}
 use Rattle.tr_model.specs.Waits.{ready_thread}

@@ -68,7 +68,12 @@ fn restarts_at(
     ensures { result ≡ restarts_at stop.now tracer journal.now notes.now dying.now place }
 {
     is_restart(stop, tracer, &journal[place], &notes[place].mark)
-        || died(dying, deaths_to(notes, place), notes[place].deaths, stop.group)
+        || died(
+            dying,
+            deaths_to(notes, place),
+            notes[place].deaths,
+            stop.group,
+        )
 }
 
 /// The first place, of those from one up to another, whose entry restarts the thread or begins the death of its group.

@@ -1,4 +1,4 @@
-use Rattle.std.proofs.Common.{◌≡◌, ◌+◌, ◌≤◌, arith, length, ap}
+use Rattle.std.proofs.Common.{arith, length, ap}
 use Rattle.tr_kernel.proofs.Logs.{deaths_few}
 use Rattle.tr_kernel.proofs.entries.write_entry.Goals as goal
 

@@ -1,4 +1,4 @@
-use Rattle.std.proofs.Common.{◌≡◌, ◌∙◌, ap, sym, true≢false}
+use Rattle.std.proofs.Common.{◌∙◌, sym, true≢false}
 use Rattle.tr_kernel.proofs.Ordered.{no_take_first, no_take_second, taken_in_order, two_by_notes, two_takes_same}
 use Rattle.tr_kernel.proofs.laws.in_order.Goals as goal
 
@@ -17,9 +17,10 @@ returns-in_default-mark_at c = record {
 pub returns-then-i-j-clause-exactly : goal.returns-then-i-j-clause-exactly
 returns-then-i-j-clause-exactly c =
     let m = sym c.mark_at.ensures.mark ∙ c.in-Take.is in
-    let n = sym c.mark_at-2.ensures.mark ∙ c.in-Take-mark_at.is in
-    ( (λ q. two_by_notes _ _ c.args.i c.args.j c.in-Take.first c.in-Take-mark_at.second m n c.if-i-j.true (c.is_same_queue.ensures.0 q))
-    , λ w. c.is_same_queue.ensures.1 (two_takes_same _ _ c.args.i c.args.j c.in-Take.first c.in-Take-mark_at.second m n w) )
+    let n = sym c.mark_at-2.ensures.mark ∙ c.in-Take-mark_at.is in (
+      (λ q. two_by_notes _ _ c.args.i c.args.j c.in-Take.first c.in-Take-mark_at.second m n c.if-i-j.true (c.is_same_queue.ensures.0 q)),
+      λ w. c.is_same_queue.ensures.1 (two_takes_same _ _ c.args.i c.args.j c.in-Take.first c.in-Take-mark_at.second m n w),
+    )
 
 pub returns-then-i-j-clause-order : goal.returns-then-i-j-clause-order
 returns-then-i-j-clause-order c =

@@ -1,4 +1,4 @@
-use Rattle.std.proofs.Common.{◌≡◌, ◌∙◌, ◌<◌, ap, sym, subst, arith, true≢false}
+use Rattle.std.proofs.Common.{◌∙◌, sym, arith, true≢false}
 use Rattle.tr_kernel.proofs.Restarted.{no_stop_first, no_stop_second, restart_between_them, some_restart, stop_bounds, two_stops_same}
 use Rattle.tr_kernel.proofs.laws.restart_between.Goals as goal
 use Rattle.tr_kernel.proofs.laws.restart_between.Goals.{else-i-j-via-then-i-j+else-first-second, else-i-j-via-else-i-j}
@@ -36,9 +36,10 @@ pub returns-else-i-j-clause-exactly : goal.returns-else-i-j-clause-exactly
 returns-else-i-j-clause-exactly c =
     let m = sym c.mark_at.ensures.mark ∙ c.in-Stop.is in
     let n = sym c.mark_at-2.ensures.mark ∙ c.in-Stop-mark_at.is in
-    let same = two_stops_same _ _ c.args.i c.args.j c.in-Stop.first c.in-Stop-mark_at.second m n in
-    ( (λ q. absurd (true≢false (sym q)))
-    , λ w. elim c.else-i-j.branch [
+    let same = two_stops_same _ _ c.args.i c.args.j c.in-Stop.first c.in-Stop-mark_at.second m n in (
+      (λ q. absurd (true≢false (sym q))),
+      λ w. elim c.else-i-j.branch [
         | else-i-j-via-then-i-j+else-first-second x ↦ absurd (x.if-first-second.false (same w).1)
         | else-i-j-via-else-i-j x ↦ (let l = (same w).0 in absurd (omega (arith, x.if-i-j.false, l)))
-      ] )
+      ],
+    )

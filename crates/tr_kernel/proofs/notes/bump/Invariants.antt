@@ -1,4 +1,4 @@
-use Rattle.std.proofs.Common.{◌≡◌, ◌++◌, ◌^◌, ◌<◌, drop, take, vec_len, vec_capacity}
+use Rattle.std.proofs.Common.{◌≡◌, ◌++◌, drop, take}
 use Rattle.tr_kernel.specs.Notes.{bumped, times}
 use Rattle.tr_kernel.proofs.notes.bump.Given as goal
 

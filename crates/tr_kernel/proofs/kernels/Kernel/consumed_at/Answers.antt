@@ -1,4 +1,4 @@
-use Rattle.std.proofs.Common.{◌≡◌, ◌∙◌, ap}
+use Rattle.std.proofs.Common.{◌∙◌, ap}
 use Rattle.tr_kernel.specs.Laws.{report_of}
 use Rattle.tr_kernel.proofs.Waited.{at_entry, once_where, raised_where, waits_exactly}
 use Rattle.tr_kernel.proofs.kernels.Kernel.consumed_at.Goals as goal

@@ -24,9 +24,10 @@ invariant_of-self c =
     let due = subst (λ (k : State). check k.table c.args.actor c.args.event.now ≡ Ok (Due c.args.choice.now)) (sym c.self.view_is) c.requires.due in
     elim c.match-made.branch [
       | in-Ok w ↦
-          let e = w.in-Ok.ensures in
-          ( written_history _ _ w.in-Ok.reply _ c.self.invariant.0 due (record { start = refl; table = e.table; reply = e.reply; journal = e.journal; replies = e.replies; fates = e.fates })
-          , rw (e.journal, e.notes, e.dying, e.passed) (noted_goes_on _ (record { actor = c.args.actor; event = c.args.event.now; choice = c.args.choice.now }) _ _ _ c.self.invariant.0 c.self.invariant.1 due) )
+          let e = w.in-Ok.ensures in (
+            written_history _ _ w.in-Ok.reply _ c.self.invariant.0 due (record { start = refl; table = e.table; reply = e.reply; journal = e.journal; replies = e.replies; fates = e.fates }),
+            rw (e.journal, e.notes, e.dying, e.passed) (noted_goes_on _ (record { actor = c.args.actor; event = c.args.event.now; choice = c.args.choice.now }) _ _ _ c.self.invariant.0 c.self.invariant.1 due),
+          )
       | in-Err w ↦
           let e = w.in-Err.ensures in
           (rw (e.err_table, e.err_journal, e.err_replies, e.err_fates) c.self.invariant.0, rw (e.err_journal, e.err_notes, e.err_dying, e.err_passed) c.self.invariant.1)

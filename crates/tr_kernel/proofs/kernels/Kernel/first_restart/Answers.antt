@@ -1,4 +1,4 @@
-use Rattle.std.proofs.Common.{◌≡◌, ◌∙◌, ap, sym, subst, length}
+use Rattle.std.proofs.Common.{◌∙◌, ap, sym, subst, length}
 use Rattle.tr_table.specs.Starts.{table_of}
 use Rattle.tr_kernel.specs.Notes.{notes_of}
 use Rattle.tr_kernel.specs.Restarts.{AreOrdered}

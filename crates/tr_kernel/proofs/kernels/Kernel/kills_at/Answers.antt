@@ -1,5 +1,3 @@
-use Rattle.std.proofs.Common.{◌≡◌, ◌∙◌, ap}
-use Rattle.std.specs.Prelude.{slice_get, ◌-◌}
 use Rattle.tr_kernel.proofs.Noticed.{kills_exactly}
 use Rattle.tr_kernel.proofs.kernels.Kernel.kills_at.Goals as goal
 
