@@ -147,7 +147,7 @@ of_group d =
 named : (t : List ℕ) → is_spared (option_named t) ≡ true
 named t =
     four (bytes_eq t (codes "clone")) (bytes_eq t (codes "exec")) (bytes_eq t (codes "exit")) (bytes_eq t (codes "exitkill"))
-        (record no_options { clone = true }) (record no_options { exec = true }) (record no_options { exit = true }) (record no_options { exitkill = true })
+    (record no_options { clone = true }) (record no_options { exec = true }) (record no_options { exit = true }) (record no_options { exitkill = true })
 
 of_option : (d : Data) → is_spared (option_of d) ≡ true
 unfolding option_of
