@@ -54,6 +54,17 @@ has_fate k h n = go (nat_le 1 n) refl (nat_le n k.table.accepted) refl
     go true p false q = tt
     go false p b q = tt
 
+pub only_fate : (k : State) → IsHistory k → (n : ℕ) → IfSome (fate_of (table_of k.start) k.journal k.table n) (λ f. (g : Fate) → HasFate (ended_by (table_of k.start) k.journal) k.table n g → g ≡ f)
+only_fate k h n = go (nat_le 1 n) refl (nat_le n k.table.accepted) refl
+  where
+    now : Fate
+    now = or_pending (ended_as (ended_by (table_of k.start) k.journal) n)
+
+    go : (a : Bool) → nat_le 1 n ≡ a → (b : Bool) → nat_le n k.table.accepted ≡ b → IfSome (if a && b then Some now else None) (λ f. (g : Fate) → HasFate (ended_by (table_of k.start) k.journal) k.table n g → g ≡ f)
+    go true p true q = (fates_agree (table_of k.start) k.table k.journal k.replies (is_start k.start h.good) h.replayed n (leb-true 1 n p) (leb-true n k.table.accepted q)).1
+    go true p false q = tt
+    go false p b q = tt
+
 pub fate_is : (k : State) → IsHistory k → (n : ℕ) (o : Option Fate) → (n ≡ 0 → o ≡ None) → (1 ≤ n → o ≡ slice_get k.fates (n - 1)) → o ≡ fate_of (table_of k.start) k.journal k.table n
 fate_is k h n o none at = go (cases_eq n 0)
   where

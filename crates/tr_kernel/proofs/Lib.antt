@@ -1,7 +1,16 @@
 pub mod Begun
+pub mod Bumped
 pub mod Called
 pub mod Checks
+pub mod Cuts
 pub mod Histories
+pub mod Killed
+pub mod Logs
 pub mod Noted
+pub mod Noticed
+pub mod Noting
+pub mod Ordered
 pub mod Positions
 pub mod Refusals
+pub mod Restarted
+pub mod Waited

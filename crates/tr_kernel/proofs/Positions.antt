@@ -16,8 +16,6 @@ table_at_end T U (e ∷ es) (r ∷ rs) h = table_at_end (work_of T e).table U es
 
 -- later entries leave the earlier tables as they were
 pub table_at_kept : (T : Table) (es fs : List Entry) (n : ℕ) → n ≤ length es → table_at T (es ++ fs) n ≡ table_at T es n
-table_at_kept T [] [] zero l = refl
-table_at_kept T [] (f ∷ fs) zero l = refl
+table_at_kept T es fs zero l = refl
 table_at_kept T [] fs (suc n) l = absurd (omega arith)
-table_at_kept T (e ∷ es) fs zero l = refl
 table_at_kept T (e ∷ es) fs (suc n) l = table_at_kept (work_of T e).table es fs n (omega arith)

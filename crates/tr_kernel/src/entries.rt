@@ -1,12 +1,15 @@
-ghost use Rattle.std.specs.Prelude.{◌≡◌, ◌∷◌, ◌++◌, [], length, IfOk, OnOk, OnErr, Ok};
+ghost use Rattle.std.specs.Prelude.{◌≡◌, ◌∷◌, ◌++◌, ◌+◌, ◌≤◌, ◌<◌, ◌^◌, [], ℕ, length, IfOk, OnOk, OnErr, Ok};
 ghost use Rattle.tr_model.specs.declared.checked.Checked.TheVariants.{Due};
 ghost use Rattle.tr_model.specs.Preferred.{check};
-ghost use Rattle.tr_model.specs.Steps.{after};
+ghost use Rattle.tr_model.specs.Steps.{after, work_of};
 ghost use Rattle.tr_kernel.specs.Fates.{fates_after};
+ghost use Rattle.tr_kernel.specs.Laws.{report_of};
+ghost use Rattle.tr_kernel.specs.Notes.{all_bumped, noted, passed_by, times};
 ghost use Rattle.tr_kernel.specs.States.{AcceptsFew};
 
 use crate::events::change;
 use crate::fates::{accept, append, note_all};
+use crate::notes::{Notes, mark_before, passing};
 use std::alloc::{AllocError, Global};
 use tr_model::{Choice, Entry, Event, Fate, Reply};
 use tr_signals::recycle;
@@ -15,25 +18,48 @@ use tr_table::Table;
 /// The most signals that one entry accepts: one for each thread of a tracer that ends.
 const ACCEPTED_AT_ONCE: usize = 1024;
 
+/// The most deaths of groups that one entry begins: two for each thread, where a tracer ends, and one.
+fn deaths_at_once(table: &Table) -> usize
+    ensures { result ≡ length table.now.table.threads + length table.now.table.threads + 1 }
+{
+    2 * table.threads().len() + 1
+}
+
+/// The report that an entry consumed, where it is a wait.
+pub(crate) fn report_of(entry: &Option<Entry>) -> Option<u64>
+    ensures { result ≡ report_of entry.now }
+{
+    match entry {
+        Some(entry) => match entry.event {
+            Event::Wait { .. } | Event::StarterWait { .. } => entry.choice.report,
+            _ => None,
+        },
+        None => None,
+    }
+}
+
 fn copied(reply: &Reply) -> Reply
     ensures { result ≡ reply.now }
 {
     *reply
 }
 
-/// Makes the entry of an event that is due and writes it down, with its reply and the fates. All that may want memory
-/// comes first. Where memory is refused nothing has changed.
+/// Makes the entry of an event that is due and writes it down, with its reply, the fates and its note. All that may want
+/// memory comes first. Where memory is refused nothing has changed.
+#[tactic(auto, using(crate::proofs::Logs::deaths_few))]
 pub(crate) fn write_entry(
     table: &mut Table,
     journal: &mut Vec<Entry>,
     replies: &mut Vec<Reply>,
     fates: &mut Vec<Fate>,
+    notes: &mut Notes,
     alloc: Global,
     actor: u32,
     event: &Event,
     choice: &Choice,
 ) -> Result<Reply, AllocError>
     requires due { check table.old.table actor event.now ≡ Ok (Due choice.now) }
+    requires few_passes { (id : ℕ) → times id notes.old.passed.items < 2 ^ 32 }
     requires counted { length fates.old.items ≡ table.old.table.accepted }
     requires bounded { AcceptsFew table.old.table (after table.old.table (record { actor = actor; event = event.now; choice = choice.now })).work.table }
     ensures table { OnOk result (table.new.table ≡ (after table.old.table (record { actor = actor; event = event.now; choice = choice.now })).work.table) }
@@ -41,17 +67,27 @@ pub(crate) fn write_entry(
     ensures journal { OnOk result (journal.new.items ≡ journal.old.items ++ record { actor = actor; event = event.now; choice = choice.now } ∷ []) }
     ensures replies { IfOk result (λ r. replies.new.items ≡ replies.old.items ++ r ∷ []) }
     ensures fates { OnOk result (fates.new.items ≡ fates_after fates.old.items (after table.old.table (record { actor = actor; event = event.now; choice = choice.now })).work) }
+    ensures notes { OnOk result (notes.new.list.items ≡ notes.old.list.items ++ noted notes.old.passed.items (length notes.old.dying.items) table.old.table (record { actor = actor; event = event.now; choice = choice.now }) ∷ []) }
+    ensures dying { OnOk result (notes.new.dying.items ≡ notes.old.dying.items ++ (work_of table.old.table (record { actor = actor; event = event.now; choice = choice.now })).dying) }
+    ensures passed { OnOk result (notes.new.passed.items ≡ all_bumped (passed_by table.old.table event.now) notes.old.passed.items) }
     ensures err_table { OnErr result (table.new.table ≡ table.old.table) }
     ensures err_journal { OnErr result (journal.new.items ≡ journal.old.items) }
     ensures err_replies { OnErr result (replies.new.items ≡ replies.old.items) }
     ensures err_fates { OnErr result (fates.new.items ≡ fates.old.items) }
+    ensures err_notes { OnErr result (notes.new.list.items ≡ notes.old.list.items) }
+    ensures err_dying { OnErr result (notes.new.dying.items ≡ notes.old.dying.items) }
+    ensures err_passed { OnErr result (notes.new.passed.items ≡ notes.old.passed.items) }
 {
     journal.reserve(1)?;
     replies.reserve(1)?;
     fates.reserve(ACCEPTED_AT_ONCE)?;
+    notes.reserve(deaths_at_once(table))?;
+    let mark = mark_before(table, actor, event, choice);
+    let passing = passing(table, event);
     let made = change(table, alloc, actor, event, choice)?;
     accept(fates, table.accepted() as usize - fates.len());
     note_all(fates, &made.ended);
+    notes.note(mark, &made, passing);
     let entry = Entry {
         actor,
         event: *event,

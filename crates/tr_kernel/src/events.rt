@@ -1,8 +1,10 @@
 ghost use Rattle.std.specs.Prelude.{◌≡◌, IfOk, OnErr, Ok};
 ghost use Rattle.tr_model.specs.declared.checked.Checked.TheVariants.{Due};
+ghost use Rattle.tr_model.specs.Journals.{taken};
 ghost use Rattle.tr_model.specs.Preferred.{check};
 ghost use Rattle.tr_model.specs.Steps.{after};
 ghost use Rattle.tr_signals.specs.Makes.{Makes};
+ghost use Rattle.tr_signals.specs.Takes.{queue_of};
 
 use std::alloc::{AllocError, Global};
 use tr_model::{Checked, Choice, Event, Refusal};
@@ -69,6 +71,7 @@ pub(crate) fn change(
 ) -> Result<Made, AllocError>
     requires { check table.old.table actor event.now ≡ Ok (Due choice.now) }
     ensures made { IfOk result (λ m. Makes m table.new.table (after table.old.table (record { actor = actor; event = event.now; choice = choice.now }))) }
+    ensures taken_from { IfOk result (λ m. m.taken_from ≡ queue_of (taken table.old.table (record { actor = actor; event = event.now; choice = choice.now }))) }
     ensures err { OnErr result (table.new.table ≡ table.old.table) }
 {
     match event {

@@ -1,16 +1,22 @@
-ghost use Rattle.std.specs.Prelude.{◌≡◌, ℕ, ◌≤◌, ◌<◌, ◌+◌, ◌-◌, ◌⊎◌, length, slice_get, IfOk, IfErr, IfSome, OnErr, Ok, Err, Some, None, false, true};
+ghost use Rattle.std.specs.Prelude.{◌≡◌, ◌≢◌, ◌↔◌, ℕ, ◌≤◌, ◌<◌, ◌+◌, ◌-◌, ◌^◌, ◌⊎◌, IsSome, IsTrue, length, slice_get, IfOk, IfErr, IfSome, OnErr, Ok, Err, Some, None, false, true};
 ghost use Rattle.tr_model.specs.declared.checked.Checked.TheVariants.{Due};
+ghost use Rattle.tr_model.specs.declared.fates.Fate.{Fate};
 ghost use Rattle.tr_model.specs.declared.replies.Refusal.{Refusal};
 ghost use Rattle.tr_model.specs.Journals.{HasFate, consumed_by, ended_by, fate_of, occurs, totals};
 ghost use Rattle.tr_model.specs.Laws.{OneFate};
 ghost use Rattle.tr_model.specs.Causes.{cause_of};
 ghost use Rattle.tr_model.specs.Preferred.{check};
 ghost use Rattle.tr_table.specs.Starts.{is_good, table_of};
+ghost use Rattle.tr_kernel.specs.Laws.{KillsAt, RaisedBefore, WaitsAt, consumed_at};
+ghost use Rattle.tr_kernel.specs.Notes.{notes_of};
+ghost use Rattle.tr_kernel.specs.Restarts.{IsRestartAt, mark_at};
 ghost use Rattle.tr_kernel.specs.States.{AcceptsFew, IsDue, IsEntered, IsHistory, IsQuiet, IsRefusal, opened};
 
-use crate::entries::write_entry;
+use crate::entries::{report_of, write_entry};
 use crate::events::check;
 use crate::fates::{at_position, tally};
+use crate::notes::{Mark, Notes, Stopped, is_killed, mark_in};
+use crate::restarts::first_restart;
 use std::alloc::{AllocError, Global};
 use std::marker::Model;
 use tr_model::{Checked, Choice, Entry, Event, Fate, Refusal, Reply, Totals};
@@ -34,17 +40,20 @@ pub struct Kernel {
     journal: Vec<Entry>,
     replies: Vec<Reply>,
     fates: Vec<Fate>,
+    notes: Notes,
     alloc: Global,
 }
 
 impl Model for Kernel {
+    ghost use Rattle.tr_table.specs.Starts.{table_of};
+    ghost use Rattle.tr_kernel.specs.Notes.{IsNoted};
     ghost use Rattle.tr_kernel.specs.States.{State, IsHistory};
 
     ghost Value = { State };
 
     ghost view = { λ k. record { start = k.start; table = k.table.table; journal = k.journal.items; replies = k.replies.items; fates = k.fates.items } };
 
-    ghost invariant = { λ k. IsHistory (record { start = k.start; table = k.table.table; journal = k.journal.items; replies = k.replies.items; fates = k.fates.items }) };
+    ghost invariant = { λ k. IsHistory (record { start = k.start; table = k.table.table; journal = k.journal.items; replies = k.replies.items; fates = k.fates.items }) × IsNoted (table_of k.start) k.journal.items k.notes.list.items k.notes.dying.items k.notes.passed.items };
 }
 
 impl Kernel {
@@ -64,6 +73,7 @@ impl Kernel {
                 journal: Vec::new(alloc),
                 replies: Vec::new(alloc),
                 fates: Vec::new(alloc),
+                notes: Notes::new(alloc),
                 alloc,
             }),
             Err(AllocError) => Err(StartFault::NoMemory),
@@ -103,10 +113,12 @@ impl Kernel {
         at_position(&self.replies, position)
     }
 
-    /// What has become of the accepted signal of a number, from 1 up; None for 0 and for numbers not accepted so far.
+    /// What has become of the accepted signal of a number, from 1 up: its one fate. None for 0 and for numbers not accepted
+    /// so far.
     pub fn fate(&self, number: u64) -> Option<Fate>
         ensures fate { result ≡ fate_of (table_of self.now.start) self.now.journal self.now.table number }
         ensures has { IfSome result (λ f. HasFate (ended_by (table_of self.now.start) self.now.journal) self.now.table number f) }
+        ensures only { IfSome result (λ f. (g : Fate) → HasFate (ended_by (table_of self.now.start) self.now.journal) self.now.table number g → g ≡ f) }
     {
         at_position(&self.fates, number)
     }
@@ -117,6 +129,53 @@ impl Kernel {
         ensures sum { result.pending + result.merged + result.delivered + result.suppressed + result.flushed ≡ result.accepted }
     {
         tally(&self.fates, self.table.accepted())
+    }
+
+    /// The report that the wait at a position, from 1, consumed; None where the entry there isn't a wait of a tracer or
+    /// the starter, and where there is none. An entry before raised it, for whom the wait consumed it, and no other wait
+    /// consumed it.
+    pub fn consumed_at(&self, position: u64) -> Option<u64>
+        ensures report { result ≡ consumed_at self.now.journal position }
+        ensures exactly { IsSome result ↔ WaitsAt self.now.journal position }
+        ensures raised { IfSome result (λ r. RaisedBefore (table_of self.now.start) self.now.journal position r) }
+        ensures once { IfSome result (λ r. (p : ℕ) → p ≢ position → consumed_at self.now.journal p ≢ Some r) }
+    {
+        report_of(&at_position(&self.journal, position))
+    }
+
+    /// What the entry at a position is to the laws.
+    pub(crate) fn mark_at(&self, position: u64) -> Mark
+        ensures mark { result ≡ mark_at (notes_of (table_of self.now.start) self.now.journal) position }
+        ensures history { IsHistory self.now }
+    {
+        mark_in(&at_position(&self.notes.list, position))
+    }
+
+    /// Whether the entry at a position delivers a KILL.
+    pub(crate) fn kills_at(&self, position: u64) -> bool
+        ensures { IsTrue result ↔ ((g : ℕ) × KillsAt (table_of self.now.start) self.now.journal position g) }
+    {
+        is_killed(&at_position(&self.notes.list, position))
+    }
+
+    /// The position of the first entry, between a wait for this thread's stop and a later position, that restarts the
+    /// thread or begins the death of its group.
+    pub(crate) fn first_restart(&self, stop: &Stopped, i: u64, j: u64) -> Option<u64>
+        requires { (1 ≤ i) × (i < j) × (j ≤ length self.now.journal) }
+        ensures found { IfSome result (λ k. IsRestartAt (table_of self.now.start) self.now.journal i j stop.now k) }
+        ensures none { result ≡ None → (k : ℕ) → IsRestartAt (table_of self.now.start) self.now.journal i j stop.now k → ⊥ }
+    {
+        let tracer = self.journal[i as usize - 1].actor;
+        let place = first_restart(
+            stop,
+            tracer,
+            &self.journal,
+            &self.notes.list,
+            &self.notes.dying,
+            i as usize,
+            j as usize - 1,
+        )?;
+        Some(place as u64 + 1)
     }
 
     /// One event of an actor: an answer without an entry, or one entry more, or a refusal.
@@ -147,7 +206,8 @@ impl Kernel {
 
     /// Makes the entry of an event that is due. Where memory is refused nothing has changed.
     fn enter(&mut self, actor: u32, event: &Event, choice: &Choice) -> Result<Reply, Refusal>
-        requires { check self.old.table actor event.now ≡ Ok (Due choice.now) }
+        requires few { length self.old.journal < 2 ^ 32 }
+        requires due { check self.old.table actor event.now ≡ Ok (Due choice.now) }
         ensures ok { IfOk result (λ reply. IsEntered self.old actor event.now reply self.new) }
         ensures err { IfErr result (λ why. why ≡ Refusal.NoMemory) }
         ensures unchanged { OnErr result (self.new ≡ self.old) }
@@ -159,6 +219,7 @@ impl Kernel {
             &mut self.journal,
             &mut self.replies,
             &mut self.fates,
+            &mut self.notes,
             self.alloc,
             actor,
             event,

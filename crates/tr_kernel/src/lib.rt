@@ -5,6 +5,9 @@ mod entries;
 mod events;
 mod fates;
 mod kernels;
+pub mod laws;
+mod notes;
+mod restarts;
 
 pub use kernels::{Kernel, StartFault};
 

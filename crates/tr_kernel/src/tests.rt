@@ -1,4 +1,5 @@
 mod kills;
+mod laws;
 mod stops;
 mod tracer_ends;
 
@@ -17,15 +18,15 @@ fn item<T: Drop>(rt: &HostRuntime, item: T) -> Result<Items<T>, Fail> {
     Ok(items)
 }
 
-/// One thread, which catches USR1; the journal may have this many entries.
-fn start(rt: &HostRuntime, entries: u32) -> Result<Start, Fail> {
-    let Some(usr1) = Signal::new(10) else {
-        return Err(Fail::from("USR1"));
+/// One thread, which catches this signal; the journal may have this many entries.
+fn start_catching(rt: &HostRuntime, sig: u8, entries: u32) -> Result<Start, Fail> {
+    let Some(signal) = Signal::new(sig) else {
+        return Err(Fail::from("a signal"));
     };
     let group = GroupStart {
         tgid: 10,
         name: item(rt, b'd')?,
-        actions: item(rt, (usr1, Action::Catch))?,
+        actions: item(rt, (signal, Action::Catch))?,
         threads: item(rt, (10, SigSet::empty()))?,
     };
     Ok(Start {
@@ -35,11 +36,25 @@ fn start(rt: &HostRuntime, entries: u32) -> Result<Start, Fail> {
     })
 }
 
-fn kernel(rt: &HostRuntime, entries: u32) -> Result<Kernel, Fail> {
-    match Kernel::new(rt.alloc(), start(rt, entries)?) {
+/// One thread, which catches USR1.
+fn start(rt: &HostRuntime, entries: u32) -> Result<Start, Fail> {
+    start_catching(rt, 10, entries)
+}
+
+fn opened(rt: &HostRuntime, start: Start) -> Result<Kernel, Fail> {
+    match Kernel::new(rt.alloc(), start) {
         Ok(kernel) => Ok(kernel),
         Err(_) => Err(Fail::from("a kernel")),
     }
+}
+
+fn kernel(rt: &HostRuntime, entries: u32) -> Result<Kernel, Fail> {
+    opened(rt, start(rt, entries)?)
+}
+
+/// A kernel of one thread, which catches this signal.
+fn catching(rt: &HostRuntime, sig: u8) -> Result<Kernel, Fail> {
+    opened(rt, start_catching(rt, sig, 100)?)
 }
 
 const KILL: Event = Event::Kill { tgid: 10, sig: 10 };

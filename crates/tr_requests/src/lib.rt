@@ -25,4 +25,4 @@ pub use tracing::{
     set_options,
 };
 pub use traps::{check_trap, trap};
-pub use waits::{check_starter_wait, check_wait, starter_wait, wait};
+pub use waits::{check_starter_wait, check_wait, ready_thread, starter_wait, wait};

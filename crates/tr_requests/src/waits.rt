@@ -93,7 +93,7 @@ fn first_ready(threads: &[Thread], actor: u32, which: Which) -> Option<u64>
 }
 
 /// The first of the actor's tracees that it asks for that has the report of this number.
-fn ready_thread(threads: &[Thread], actor: u32, which: Which, number: u64) -> Option<&Thread>
+pub fn ready_thread(threads: &[Thread], actor: u32, which: Which, number: u64) -> Option<&Thread>
     ensures { option_copied result ≡ with_report (asked_among threads.now actor which) number }
 {
     for thread in threads {

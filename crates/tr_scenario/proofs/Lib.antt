@@ -4,7 +4,9 @@ pub mod Halts
 pub mod Keys
 pub mod Left
 pub mod Made
+pub mod NotJson
 pub mod Repeats
+pub mod Spared
 pub mod StatusTexts
 pub mod Texts
 pub mod Walks

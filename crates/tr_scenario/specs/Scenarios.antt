@@ -1,5 +1,5 @@
 -- The scenario that bytes are, or the first fault in them.
-use Rattle.std.specs.Prelude.{ℕ, ◌+◌, ◌-◌, ◌^◌, List, [], ◌∷◌, Bool, not, ◌||◌, nat_le, if◌then◌else◌, Option, Some, None, Result, Ok, Err, codes, length, map, sum_by}
+use Rattle.std.specs.Prelude.{◌≡◌, ◌⊎◌, ℕ, ◌≤◌, ◌+◌, ◌-◌, ◌^◌, List, [], ◌∷◌, Bool, not, ◌||◌, nat_le, if◌then◌else◌, Option, Some, None, Result, Ok, Err, codes, length, map, sum_by}
 use Rattle.std.specs.List.{list_any}
 use Rattle.std.specs.Str.{is_utf8}
 use Rattle.serde_json.specs.Data.{Data, Items, no_items, item}
@@ -8,7 +8,7 @@ use Rattle.serde_json.specs.Read.{read}
 use Rattle.tr_table.specs.declared.starts.Start.{Start}
 use Rattle.tr_table.specs.Starts.{ids_started, is_good, no_repeat}
 use Rattle.tr_scenario.specs.declared.faults.ScenarioFault.{ScenarioFault}
-use Rattle.tr_scenario.specs.declared.faults.ScenarioFault.TheVariants.{BadStart, NotJson, Repeated, TooLarge}
+use Rattle.tr_scenario.specs.declared.faults.ScenarioFault.TheVariants.{BadStart, NoMemory, NotJson, Repeated, TooLarge}
 use Rattle.tr_scenario.specs.declared.steps.Scenario.{Scenario}
 use Rattle.tr_scenario.specs.declared.steps.Step.{Step}
 use Rattle.tr_scenario.specs.Events.{event_of}
@@ -84,3 +84,12 @@ json_of bytes = if is_utf8 bytes then json_from (read bytes) else Err NotJson
 
 unfoldable pub scenario_of : List ℕ → Result Scenario ScenarioFault
 scenario_of bytes = if nat_le (length bytes) 1048576 then (json_of bytes >>= λ d. walk d >>= whole) else Err TooLarge
+
+-- the size is allowed, and serde_json has no value for the bytes
+abbrev pub HasNoValue : List ℕ → Type 0
+HasNoValue bytes = (length bytes ≤ 1048576) × (json_of bytes ≡ Err NotJson)
+
+-- NotJson comes exactly there, but where memory is refused
+abbrev pub IsExact : List ℕ → Result Scenario ScenarioFault → Type 0
+IsExact bytes (Ok s) = HasNoValue bytes → ⊥
+IsExact bytes (Err e) = (e ≡ NotJson → HasNoValue bytes) × (HasNoValue bytes → (e ≡ NotJson) ⊎ (e ≡ NoMemory))

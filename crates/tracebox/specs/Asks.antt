@@ -45,6 +45,7 @@ Answers words (Err e) = takes tracebox words ≡ true → (e ≡ NoMemory) ⊎ (
 abbrev pub fault_at : ErrorKind → AskFault
 fault_at kind.OutOfMemory = NoMemory
 fault_at kind.DisplayHelp = Help
+fault_at kind.DisplayVersion = Help
 fault_at _ = Usage
 
 abbrev pub IsFaultOf : Kinds → AskFault → Type 0

@@ -3,9 +3,9 @@ use Rattle.std.specs.Prelude.{true, codes, Some}
 use Rattle.clap.specs.Words.{App, Rule, new_app, new_rule, with_rule, with_subcommand}
 use Rattle.clap.specs.declared.builder.action.ArgAction.TheVariants.{Set}
 
--- the command by itself, which wants one of its subcommands
+-- the command by itself, which has a version and wants one of its subcommands
 abbrev pub bare : App
-bare = let a = new_app (codes "tracebox") in record a { top = record a.top { subcommand_required = true } }
+bare = let a = new_app (codes "tracebox") in record a { top = record a.top { has_version = true; subcommand_required = true } }
 
 abbrev pub serial_app : App
 serial_app = new_app (codes "serial")

@@ -22,7 +22,7 @@ pub enum Ask {
 /// Why a command line asks for nothing.
 #[derive(Clone, Copy, Debug, PartialEq, Eq)]
 pub enum AskFault {
-    /// It wants help.
+    /// It wants help, or the program's version.
     Help,
     /// It isn't one that the program takes.
     Usage,
@@ -32,7 +32,7 @@ pub enum AskFault {
 
 /// What the words of a command line ask for, of which the first is the program's name: `serial`, or `decode` and a
 /// word of 1 to 8 hexadecimal digits of either case without a prefix. `Usage` for a word of another form. Where `clap`
-/// doesn't take the words, `Help` if they want help, else `Usage`. `NoMemory` where memory is refused.
+/// doesn't take the words, `Help` if they want help or the version, else `Usage`. `NoMemory` where memory is refused.
 pub fn asked<'a, S: AsStr>(alloc: Global, words: &'a [S]) -> Result<Ask, AskFault>
     ensures answers { Answers (map S.text words.entry.now) result }
     ensures blames { Blames (map S.text words.entry.now) result }
@@ -46,7 +46,7 @@ pub fn asked<'a, S: AsStr>(alloc: Global, words: &'a [S]) -> Result<Ask, AskFaul
     }
 }
 
-/// The help that the words want. Where they want none, what `clap` says of them; empty where it takes them.
+/// The help or the version that the words want. Where they want neither, what `clap` says of them; empty where it takes them.
 pub fn help<'a, S: AsStr>(alloc: Global, words: &'a [S]) -> Result<String, AllocError> {
     match command(alloc)?.try_get_matches_from(words) {
         Ok(_) => Ok(String::new(alloc)),
@@ -59,7 +59,7 @@ fn fault_at(kind: ErrorKind) -> AskFault
 {
     match kind {
         ErrorKind::OutOfMemory => AskFault::NoMemory,
-        ErrorKind::DisplayHelp => AskFault::Help,
+        ErrorKind::DisplayHelp | ErrorKind::DisplayVersion => AskFault::Help,
         _ => AskFault::Usage,
     }
 }

@@ -6,6 +6,35 @@ ghost use Rattle.tracebox.specs.CommandLine.{decode_app, serial_app, tracebox};
 use clap::{Arg, ArgAction, Command};
 use std::alloc::{AllocError, Global};
 
+const VERSION: &str = "0.1.0";
+
+const PROGRAM_END: &str =
+    "`serial` reads a scenario on standard input, `decode` nothing but its WORD. Both print on standard\n\
+output. A fault goes to standard error, as `tracebox: ` and its name. Exit status: 0 done, also\n\
+help; 1 the input is refused, or no status has the word; 2 the command line isn't one of these;\n\
+3 memory, the reader or the writer failed.\n\n\
+Example:\n  \
+tracebox serial < scenario.json";
+
+const SERIAL: &str = "Runs the scenario on standard input, one call after another.\n\n\
+Reads one JSON object of at most 1,048,576 bytes: where a kernel starts from, and the steps that\n\
+are made. Prints a line for each call, then the status of each thread, then how many signals were\n\
+accepted and what became of them. Nothing is printed of an input that is refused.";
+
+const SERIAL_END: &str = "Example:\n  \
+echo '{\"version\":1,\"limit\":4,\"entries\":9,\"groups\":[{\"tgid\":10,\"name\":\"demo\",\"actions\":[],\n    \
+\"threads\":[{\"tid\":10,\"blocked\":[]}]}],\"steps\":[{\"actor\":900,\"do\":\"kill\",\"tgid\":10,\"sig\":15}]}' |\n    \
+tracebox serial\n\
+prints `#1 900 kill sent 1 pending`, the thread's status, and the totals.";
+
+const DECODE: &str = "Tells the status that a wait status word has, as waitpid(2) gives it.\n\n\
+Prints one line: exited CODE, killed SIGNAL, stopped SIGNAL, event clone, event exec, event exit,\n\
+event stop SIGNAL or continued.";
+
+const DECODE_END: &str = "Example:\n  \
+tracebox decode 80137f\n\
+prints `event stop 19`.";
+
 /// The command line of the program.
 pub(crate) fn command<'a>(alloc: Global) -> Result<Command<'a>, AllocError>
     ensures { IfOk result (λ c. app_of c ≡ tracebox) }
@@ -13,6 +42,8 @@ pub(crate) fn command<'a>(alloc: Global) -> Result<Command<'a>, AllocError>
     let decode = decode_command(alloc)?;
     let command = Command::new(alloc, "tracebox")
         .about("A model kernel of Linux process tracing")
+        .after_help(PROGRAM_END)
+        .version(VERSION)
         .subcommand_required(true);
     let command = command.subcommand(serial_command(alloc))?;
     command.subcommand(decode)
@@ -22,9 +53,10 @@ fn serial_command<'a>(alloc: Global) -> Command<'a>
     ensures app { app_of result ≡ serial_app }
     ensures local { (fields_of result).has_globals ≡ false }
 {
-    Command::new(alloc, "serial").about(
-        "Runs the scenario on standard input, one call after another",
-    )
+    Command::new(alloc, "serial")
+        .about("Runs the scenario on standard input, one call after another")
+        .long_about(SERIAL)
+        .after_help(SERIAL_END)
 }
 
 fn decode_command<'a>(alloc: Global) -> Result<Command<'a>, AllocError>
@@ -37,5 +69,7 @@ fn decode_command<'a>(alloc: Global) -> Result<Command<'a>, AllocError>
         .required(true);
     Command::new(alloc, "decode")
         .about("Tells the status that a wait status word has")
+        .long_about(DECODE)
+        .after_help(DECODE_END)
         .arg(word)
 }

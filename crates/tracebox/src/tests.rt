@@ -1,9 +1,11 @@
 mod command_lines;
 mod devices;
+mod large_groups;
 mod runs;
+mod stored;
 
 use super::*;
-use devices::{Feed, Page, blank_page, new_feed};
+use devices::{SOUND, Ways, blank_page, new_feed};
 use std::fmt::Debug;
 use std::process::Abort;
 use std::test::Fail;
@@ -16,12 +18,11 @@ struct Outcome {
     told: Vec<u8>,
 }
 
-/// Performs the words, with an input that comes whole, a writer that takes so many puts, and faults that are told or
-/// not.
-fn done<T: AllocGlobal>(rt: &T, words: &[&str], input: &str, puts: usize, tells: bool) -> Outcome {
-    let mut reader = new_feed(rt.alloc(), input.as_bytes(), 1000000);
-    let mut writer = blank_page(rt.alloc(), puts);
-    let mut faults = blank_page(rt.alloc(), if tells { 1000 } else { 0 });
+/// Performs the words on devices in memory.
+fn done<T: AllocGlobal>(rt: &T, words: &[&str], input: &[u8], ways: Ways) -> Outcome {
+    let mut reader = new_feed(rt.alloc(), input, ways);
+    let mut writer = blank_page(rt.alloc(), ways.most, ways.failing_put);
+    let mut faults = blank_page(rt.alloc(), ways.most, ways.failing_tell);
     let status = perform(rt, words, &mut reader, &mut writer, &mut faults);
     Outcome {
         status,
@@ -35,16 +36,18 @@ fn same<T: PartialEq + Debug>(rt: &impl Abort, value: &T, want: &T) {
     assert_eq!(rt; *value, *want);
 }
 
-/// That the words, with an input, end with this status, and with these texts on the writer and for the faults.
-fn expect<T: Abort + AllocGlobal>(
-    rt: &T,
-    words: &[&str],
-    input: &str,
-    want: (u8, &str, &str),
-) -> Result<(), Fail> {
-    let done = done(rt, words, input, 1000, true);
-    same(rt, &done.written.as_slice(), &want.1.as_bytes());
-    same(rt, &done.told.as_slice(), &want.2.as_bytes());
+fn text(bytes: &[u8]) -> &str {
+    std::str::from_utf8(bytes).unwrap_or("not UTF-8")
+}
+
+/// That this came of a command line: its status, what was written, and what was told.
+fn expect_outcome(rt: &impl Abort, done: &Outcome, want: (u8, &str, &str)) {
+    same(rt, &text(&done.written), &want.1);
+    same(rt, &text(&done.told), &want.2);
     same(rt, &done.status, &want.0);
-    Ok(())
+}
+
+/// That the words, with an input on sound devices, come to this.
+fn expect<T: Abort + AllocGlobal>(rt: &T, words: &[&str], input: &str, want: (u8, &str, &str)) {
+    expect_outcome(rt, &done(rt, words, input.as_bytes(), SOUND), want);
 }

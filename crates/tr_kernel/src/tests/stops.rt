@@ -93,7 +93,7 @@ const KILL_USR1: Call = (901, Event::Kill { tgid: 10, sig: 10 });
 
 const KILL_STOP: Call = (901, Event::Kill { tgid: 10, sig: 19 });
 
-const TAKE: Call = (10, Event::Take { tid: 10 });
+pub(super) const TAKE: Call = (10, Event::Take { tid: 10 });
 
 const HALT: Call = (10, Event::Halt { tid: 10 });
 

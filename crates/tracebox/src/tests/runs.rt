@@ -9,18 +9,68 @@ const TEXT: &str =
 
 const SERIAL: [&str; 2] = ["tracebox", "serial"];
 
-#[test]
-fn a_scenario_is_run(rt: HostRuntime) -> Result<(), Fail> {
-    expect(&rt, &SERIAL, BLOCKED, (0, TEXT, ""))
+fn run<T: AllocGlobal>(rt: &T, ways: Ways) -> Outcome {
+    done(rt, &SERIAL, BLOCKED.as_bytes(), ways)
 }
 
 #[test]
-fn an_input_is_cut(rt: HostRuntime) -> Result<(), Fail> {
-    for length in [0, 1, 7, 100, 267] {
-        let input = BLOCKED.get(..length).ok_or("not so long")?;
-        expect(&rt, &SERIAL, input, (1, "", "tracebox: NotJson\n"))?;
+fn bytes_come_and_go_one_at_a_time(rt: HostRuntime) {
+    let ways = Ways { most: 1, ..SOUND };
+    expect_outcome(&rt, &run(&rt, ways), (0, TEXT, ""));
+}
+
+/// Sixteen bytes at a time, the input comes in 17 pieces, and the end after them.
+#[test]
+fn a_reader_is_interrupted_at_each_call(rt: HostRuntime) {
+    for interrupted_get in 1..20 {
+        let ways = Ways {
+            most: 16,
+            interrupted_get,
+            ..SOUND
+        };
+        expect_outcome(&rt, &run(&rt, ways), (0, TEXT, ""));
     }
-    Ok(())
+}
+
+#[test]
+fn a_reader_fails_at_each_call(rt: HostRuntime) {
+    for failing_get in 1..19 {
+        let ways = Ways {
+            most: 16,
+            failing_get,
+            ..SOUND
+        };
+        expect_outcome(&rt, &run(&rt, ways), (3, "", "tracebox: ReadFault\n"));
+    }
+}
+
+/// That the writer that fails at a put, and at no other, took a front of the text.
+fn expect_front<T: Abort + AllocGlobal>(rt: &T, failing_put: usize) {
+    let ways = Ways {
+        most: 16,
+        failing_put,
+        ..SOUND
+    };
+    let done = run(rt, ways);
+    same(rt, &done.status, &3);
+    same(rt, &text(&done.told), &"tracebox: WriteFault\n");
+    assert!(rt; TEXT.as_bytes().starts_with(&done.written));
+    same(rt, &done.written.is_empty(), &(failing_put == 1));
+}
+
+#[test]
+fn a_writer_fails_at_each_put(rt: HostRuntime) {
+    for failing_put in 1..24 {
+        expect_front(&rt, failing_put);
+    }
+}
+
+#[test]
+fn an_input_is_cut_anywhere(rt: HostRuntime) {
+    for length in 0..BLOCKED.len() {
+        let input = BLOCKED.get(..length).unwrap_or(BLOCKED);
+        expect(&rt, &SERIAL, input, (1, "", "tracebox: NotJson\n"));
+    }
 }
 
 /// That the scenario with one part put in place of another is refused with this fault.
@@ -31,66 +81,66 @@ fn expect_refused<T: Abort + AllocGlobal>(
     told: &str,
 ) -> Result<(), Fail> {
     let input = BLOCKED.replace(rt.alloc(), old, new)?;
-    expect(rt, &SERIAL, &input, (1, "", told))
+    expect(rt, &SERIAL, &input, (1, "", told));
+    Ok(())
 }
 
 #[test]
-fn a_scenario_is_refused(rt: HostRuntime) -> Result<(), Fail> {
-    let version = r#""version":1"#;
-    expect_refused(&rt, version, r#""version":3"#, "tracebox: BadField\n")?;
-    expect_refused(&rt, "[10]", "[65]", "tracebox: BadSignal\n")?;
-    expect_refused(
-        &rt,
-        r#""tgid":10,"name""#,
-        r#""tgid":9,"name""#,
-        "tracebox: BadStart\n",
-    )?;
-    let thread = r#"{"tid":10,"blocked":[]}"#;
-    let twice = r#"{"tid":10,"blocked":[]},{"tid":11,"blocked":[]},{"tid":11,"blocked":[]}"#;
-    expect_refused(&rt, thread, twice, "tracebox: Repeated\n")
+fn an_input_is_refused(rt: HostRuntime) -> Result<(), Fail> {
+    for (old, new, told) in [
+        (r#""version":1"#, r#""version":3"#, "tracebox: BadField\n"),
+        (
+            r#""limit":4"#,
+            r#""limit":4294967296"#,
+            "tracebox: BadField\n",
+        ),
+        (r#""limit":4"#, r#""limit":1.5"#, "tracebox: BadField\n"),
+        (r#""actor":10"#, r#""actor":0"#, "tracebox: BadField\n"),
+        ("[10]", "[65]", "tracebox: BadSignal\n"),
+        (
+            r#""sig":10"#,
+            r#""sig":10,"times":60000"#,
+            "tracebox: TooLarge\n",
+        ),
+        (
+            r#"{"tid":10,"blocked":[]}"#,
+            r#"{"tid":10,"blocked":[]},{"tid":11,"blocked":[]},{"tid":11,"blocked":[]}"#,
+            "tracebox: Repeated\n",
+        ),
+        (
+            r#""actions":[]"#,
+            r#""actions":[{"sig":10,"how":"catch"},{"sig":10,"how":"catch"}]"#,
+            "tracebox: Repeated\n",
+        ),
+        (
+            r#""actions":[]"#,
+            r#""actions":[{"sig":9,"how":"catch"}]"#,
+            "tracebox: BadStart\n",
+        ),
+        (
+            r#""tgid":10,"name":"demo","threads":[{"tid":10"#,
+            r#""tgid":1,"name":"demo","threads":[{"tid":1"#,
+            "tracebox: BadStart\n",
+        ),
+        ("demo", "demodemodemodemo", "tracebox: BadStart\n"),
+    ] {
+        expect_refused(&rt, old, new, told)?;
+    }
+    Ok(())
 }
 
-/// That a reader that fails after so many calls is told of.
-fn expect_blame<T: Abort + AllocGlobal>(rt: &T, calls: usize) {
-    let mut reader = new_feed(rt.alloc(), BLOCKED.as_bytes(), calls);
-    let mut writer = blank_page(rt.alloc(), 1000);
-    let mut faults = blank_page(rt.alloc(), 1000);
-    let status = perform(rt, &SERIAL, &mut reader, &mut writer, &mut faults);
-    same(rt, &status, &3);
-    same(rt, &writer.bytes.len(), &0);
-    same(
-        rt,
-        &faults.bytes.as_slice(),
-        &b"tracebox: ReadFault\n".as_slice(),
-    );
-}
-
-#[test]
-fn a_reader_fails(rt: HostRuntime) {
-    expect_blame(&rt, 0);
-    expect_blame(&rt, 1);
-    expect_blame(&rt, 2);
-    expect_blame(&rt, 30);
-}
-
-/// That a writer that fails after so many puts took a front of the text, of at most so many bytes.
-fn expect_front<T: Abort + AllocGlobal>(rt: &T, puts: usize, most: usize) {
-    let done = done(rt, &SERIAL, BLOCKED, puts, true);
-    same(rt, &done.status, &3);
-    same(
-        rt,
-        &done.told.as_slice(),
-        &b"tracebox: WriteFault\n".as_slice(),
-    );
-    assert!(rt; done.written.len() <= most);
-    same(rt, &done.written.is_empty(), &(puts == 0));
-    assert!(rt; TEXT.as_bytes().starts_with(&done.written));
+/// That bytes that aren't a scenario are refused with this fault.
+fn expect_hostile<T: Abort + AllocGlobal>(rt: &T, input: &[u8], told: &str) {
+    expect_outcome(rt, &done(rt, &SERIAL, input, SOUND), (1, "", told));
 }
 
 #[test]
-fn a_writer_fails_in_a_run(rt: HostRuntime) {
-    expect_front(&rt, 0, 0);
-    expect_front(&rt, 1, 5);
-    expect_front(&rt, 2, 10);
-    expect_front(&rt, 50, 250);
+fn an_input_is_hostile(rt: HostRuntime) -> Result<(), Fail> {
+    expect_hostile(&rt, b"{\"version\":\xff}", "tracebox: NotJson\n");
+    let brackets = "[".repeat(rt.alloc(), 200)?;
+    expect_hostile(&rt, brackets.as_bytes(), "tracebox: NotJson\n");
+    let blanks = " ".repeat(rt.alloc(), 1048577)?;
+    expect_hostile(&rt, blanks.as_bytes(), "tracebox: TooLarge\n");
+    expect_hostile(&rt, &blanks.as_bytes()[1..], "tracebox: NotJson\n");
+    Ok(())
 }

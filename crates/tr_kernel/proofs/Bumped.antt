@@ -1,0 +1,54 @@
+-- How often ids have passed on, with one of them once more.
+use Rattle.std.proofs.Common.{◌≡◌, ℕ, zero, suc, ◌+◌, ◌<◌, List, [], ◌∷◌, ◌++◌, length, take, drop, Bool, true, false, ◌==◌, if◌then◌else◌, get_or, set, refl, sym, ap, ◌∙◌, arith}
+use Rattle.std.proofs.lemmas.Bool.{eq-eqb, eqb-true, eqb-false, ne_eqb}
+use Rattle.tr_model.specs.Journals.{occurs}
+use Rattle.tr_kernel.specs.declared.notes.Passed.{Passed}
+use Rattle.tr_kernel.specs.Notes.{all_bumped, bumped, times}
+
+abbrev more : Passed → Passed
+more p = record { id = p.id; times = p.times + 1 }
+
+bumped_there : (id k : ℕ) (ps : List Passed) (d : Passed) → k < length ps → (get_or ps k d).id ≡ id → set ps k (more (get_or ps k d)) ≡ take k ps ++ bumped id (drop k ps)
+bumped_there id k [] d l e = absurd (omega arith)
+bumped_there id zero (p ∷ ps) d l e = go (p.id == id) (eq-eqb p.id id e)
+  where
+    go : (b : Bool) → b ≡ true → more p ∷ ps ≡ (if b then more p ∷ ps else p ∷ bumped id ps)
+    go true h = refl
+    go false h = absurd cc
+bumped_there id (suc k) (p ∷ ps) d l e = ap (λ qs. p ∷ qs) (bumped_there id k ps d (omega arith) e)
+
+pub set_bumped : (id k : ℕ) (ps : List Passed) (d p : Passed) → k < length ps → p ≡ get_or ps k d → p.id ≡ id → bumped id ps ≡ take k ps ++ bumped id (drop k ps) → set ps k (record { id = p.id; times = p.times + 1 }) ≡ bumped id ps
+set_bumped id k ps d p l q e h = ap (λ x. set ps k (more x)) q ∙ (bumped_there id k ps d l (ap (λ (x : Passed). x.id) (sym q) ∙ e) ∙ sym h)
+
+-- each other id has passed on as often as before
+pub times_bumped : (n id : ℕ) (ps : List Passed) → times n (bumped id ps) ≡ times n ps + (if id == n then 1 else 0)
+times_bumped n id [] = go (id == n)
+  where
+    go : (b : Bool) → (if b then 1 else 0) ≡ 0 + (if b then 1 else 0)
+    go true = refl
+    go false = refl
+times_bumped n id (p ∷ ps) = go (p.id == id) refl (p.id == n) refl (times_bumped n id ps)
+  where
+    here : p.id ≡ id → (b : Bool) → (p.id == n) ≡ b → (c : Bool) → (id == n) ≡ c → (if b then p.times + 1 else times n ps) ≡ (if b then p.times else times n ps) + (if c then 1 else 0)
+    here e true h true k = refl
+    here e true h false k = absurd (eqb-false id n k (sym e ∙ eqb-true p.id n h))
+    here e false h true k = absurd (eqb-false p.id n h (e ∙ eqb-true id n k))
+    here e false h false k = omega arith
+
+    there : (p.id ≡ id → ⊥) → (b : Bool) → (p.id == n) ≡ b → times n (bumped id ps) ≡ times n ps + (if id == n then 1 else 0) → (if b then p.times else times n (bumped id ps)) ≡ (if b then p.times else times n ps) + (if id == n then 1 else 0)
+    there e true h ih = other (id == n) refl
+      where
+        other : (c : Bool) → (id == n) ≡ c → p.times ≡ p.times + (if c then 1 else 0)
+        other true k = absurd (e (eqb-true p.id n h ∙ sym (eqb-true id n k)))
+        other false k = omega arith
+    there e false h ih = ih
+
+    go : (a : Bool) → (p.id == id) ≡ a → (b : Bool) → (p.id == n) ≡ b → times n (bumped id ps) ≡ times n ps + (if id == n then 1 else 0)
+        → times n (if a then more p ∷ ps else p ∷ bumped id ps) ≡ (if p.id == n then p.times else times n ps) + (if id == n then 1 else 0)
+    go true h b k ih = here (eqb-true p.id id h) (p.id == n) refl (id == n) refl
+    go false h b k ih = there (eqb-false p.id id h) (p.id == n) refl ih
+
+-- all that passed on, counted
+pub times_all : (n : ℕ) (ids : List ℕ) (ps : List Passed) → times n (all_bumped ids ps) ≡ times n ps + occurs n ids
+times_all n [] ps = omega arith
+times_all n (id ∷ ids) ps = omega (arith, times_all n ids (bumped id ps), times_bumped n id ps)

@@ -1,0 +1,159 @@
+-- The notes of one entry more.
+use Rattle.std.proofs.Common.{◌≡◌, ℕ, ◌+◌, ◌<◌, ◌≤◌, ◌^◌, List, [], ◌∷◌, ◌++◌, length, Ok, Some, None, Option, refl, sym, ap, ap₂, ◌∙◌, subst, arith, append_assoc, append-nil, length-append, Bool, true, false, ◌&&◌, ◌==◌, if◌then◌else◌, not}
+use Rattle.tr_pending.specs.declared.instance.Instance.{Instance}
+use Rattle.tr_pending.specs.Waiting.{best_of}
+use Rattle.tr_tracee.specs.declared.thread.Thread.{Thread}
+use Rattle.tr_tracee.specs.Lives.{is_execing}
+use Rattle.tr_tracee.specs.Threads.{is_leader}
+use Rattle.tr_model.specs.declared.checked.Checked.TheVariants.{Due}
+use Rattle.tr_model.specs.declared.events.Choice.{Choice}
+use Rattle.tr_model.specs.declared.events.Entry.{Entry}
+use Rattle.tr_model.specs.declared.events.Event.{Event}
+use Rattle.tr_model.specs.declared.events.Event.TheVariants as event
+use Rattle.tr_model.specs.declared.replies.Reply.{Reply}
+use Rattle.tr_model.specs.declared.replies.Reply.TheVariants as reply
+use Rattle.tr_model.specs.declared.rows.Target.{Target}
+use Rattle.tr_model.specs.declared.rows.Target.TheVariants as target
+use Rattle.tr_model.specs.Journals.{DistinctIds, IsSorted, Replay, Taken, occurs, renamed_by, taken_by, taken_of}
+use Rattle.tr_model.specs.Moves.{instance_in}
+use Rattle.tr_model.specs.Preferred.{check}
+use Rattle.tr_model.specs.Steps
+use Rattle.tr_model.specs.Steps.{after, takes_by, takes_instance, work_of}
+use Rattle.tr_model.specs.Tables.{Table, queue, thread_of}
+use Rattle.tr_model.specs.Takes
+use Rattle.tr_model.proofs.OneFate.{occurs-append}
+use Rattle.tr_model.proofs.Ordered.{waiting_is_sorted}
+use Rattle.tr_model.proofs.Standing.{ids_are_distinct}
+use Rattle.tr_model.proofs.Takable.{best_is_chosen}
+use Rattle.tr_signals.specs.Takes.{queue_of}
+use Rattle.tr_signals.proofs.Taking.{IsDue, is_due}
+use Rattle.tr_signals.proofs.TakingAny.{is_due_any}
+use Rattle.tr_table.specs.Starts.{table_of}
+use Rattle.tr_kernel.specs.declared.notes.Mark.{Mark}
+use Rattle.tr_kernel.specs.declared.notes.Mark.TheVariants.{Nothing, Take}
+use Rattle.tr_kernel.specs.declared.notes.Note.{Note}
+use Rattle.tr_kernel.specs.declared.notes.Passed.{Passed}
+use Rattle.tr_kernel.specs.Notes.{IsNoted, all_bumped, dying_by, is_some_group, mark_after, mark_before, mark_of, note_of, noted, notes_from, notes_of, passed_by, passed_id, passes, passes_in, take_mark, times}
+use Rattle.tr_kernel.specs.States.{IsHistory, State}
+use Rattle.tr_kernel.proofs.Begun.{is_start}
+use Rattle.tr_kernel.proofs.Bumped.{times_all}
+use Rattle.tr_kernel.proofs.Checks.{dues, take_any_numbered, take_numbered}
+use Rattle.tr_kernel.proofs.Logs.{passed_is}
+
+-- The mark of a take
+
+passes_same : (ids : List ℕ) (ps : List Passed) → ((n : ℕ) → times n ps ≡ occurs n ids) → (q : Target) → passes_in ps q ≡ passes ids q
+passes_same ids ps h (target.Thread id) = h id
+passes_same ids ps h (target.Group g) = refl
+
+take_marked : (T : Table) (ids : List ℕ) (ps : List Passed) → ((n : ℕ) → times n ps ≡ occurs n ids) → IsSorted T.waiting → (id n : ℕ) → IsDue T id n
+    → mark_after Nothing (Steps.took T (thread_of T id) (instance_in T.waiting n)) (queue_of (taken_by T (thread_of T id) n)) ps ≡ take_mark ids (taken_by T (thread_of T id) n)
+take_marked T ids ps h s id n d =
+    let b = best_is_chosen T d.thread d.instance s d.best in
+    let i : instance_in T.waiting n ≡ Some d.instance = ap (instance_in T.waiting) (sym d.number) ∙ b.waits in
+    let k = ap (λ o. taken_by T o n) d.there ∙ (ap (taken_by T (Some d.thread)) (sym d.number) ∙ b.taken) in
+    let r : Steps.took T (thread_of T id) (instance_in T.waiting n) ≡ reply.Took d.thread.id d.instance (Takes.took T d.thread d.instance) = ap₂ (Steps.took T) d.there i in
+    let q = Takes.taken_from (best_of d.thread.mask (queue T (target.Thread d.thread.id))) d.thread in
+    ap₂ (λ x o. mark_after Nothing x (queue_of o) ps) r k
+    ∙ (ap (λ p. Take (record { number = d.instance.n; signal = d.instance.sig; queue = q; passed = p })) (passes_same ids ps h q) ∙ sym (ap (take_mark ids) k))
+
+marked : (T : Table) (ids : List ℕ) (ps : List Passed) → ((n : ℕ) → times n ps ≡ occurs n ids) → IsSorted T.waiting → DistinctIds T → (e : Entry) → check T e.actor e.event ≡ Ok (Due e.choice)
+    → mark_after (mark_before T e.actor e.event e.choice) (after T e).reply (queue_of (taken_of T e.event e.choice)) ps ≡ mark_of ids T e.actor e.event e.choice
+marked T ids ps h s u e d = go e.event e.choice d
+  where
+    go : (x : Event) (c : Choice) → check T e.actor x ≡ Ok (Due c)
+        → mark_after (mark_before T e.actor x c) (Steps.reply_of T e.actor x c (work_of T (record { actor = e.actor; event = x; choice = c }))) (queue_of (taken_of T x c)) ps ≡ mark_of ids T e.actor x c
+    go (event.Take id) c q =
+        let p = dues T e.actor (event.Take id) c q in
+        let m = take_numbered T e.actor id c p.not_quiet p.preferred in
+        rw (m.1) (take_marked T ids ps h s id m.0 (is_due T e.actor id m.0 (subst (λ z. check T e.actor (event.Take id) ≡ Ok (Due z)) m.1 q)))
+    go (event.TakeAny g) c q =
+        let p = dues T e.actor (event.TakeAny g) c q in
+        let m = take_any_numbered T e.actor g c p.not_quiet p.preferred in
+        rw (m.2) (take_marked T ids ps h s m.0 m.1 (is_due_any T e.actor g m.0 m.1 u (subst (λ z. check T e.actor (event.TakeAny g) ≡ Ok (Due z)) m.2 q)))
+    go x c q = refl
+
+noted_is : (T : Table) (ids : List ℕ) (ps : List Passed) → ((n : ℕ) → times n ps ≡ occurs n ids) → IsSorted T.waiting → DistinctIds T → (deaths : ℕ) (e : Entry) → check T e.actor e.event ≡ Ok (Due e.choice) → noted ps deaths T e ≡ note_of ids deaths T e
+noted_is T ids ps h s u deaths e d = ap (λ m. record { mark = m; killed = is_some_group (work_of T e).killed; deaths = deaths + length (work_of T e).dying }) (marked T ids ps h s u e d)
+
+-- Notes of a longer journal
+
+notes_push : (T U : Table) (ids : List ℕ) (deaths : ℕ) (es : List Entry) (rs : List Reply) (x : Entry) → Replay T es rs U
+    → notes_from ids deaths T (es ++ x ∷ []) ≡ notes_from ids deaths T es ++ note_of (ids ++ renamed_by T es) (deaths + length (dying_by T es)) U x ∷ []
+notes_push T U ids deaths [] [] x h = rw (h, append-nil) (ap (λ d. note_of ids d T x ∷ []) (omega arith))
+notes_push T U ids deaths [] (r ∷ rs) x h = absurd h
+notes_push T U ids deaths (e ∷ es) [] x h = absurd h
+notes_push T U ids deaths (e ∷ es) (r ∷ rs) x h =
+    let w = work_of T e in
+    let rest = notes_push w.table U (ids ++ w.renamed) (deaths + length w.dying) es rs x (subst (λ M. Replay M es rs U) h.1.table h.2) in
+    let n : (deaths + length w.dying) + length (dying_by w.table es) ≡ deaths + length (w.dying ++ dying_by w.table es) = omega (arith, length-append w.dying (dying_by w.table es)) in
+    ap (λ ns. note_of ids deaths T e ∷ ns) (rest ∙ ap₂ (λ i d. notes_from (ids ++ w.renamed) (deaths + length w.dying) w.table es ++ note_of i d U x ∷ []) (append_assoc ids w.renamed (renamed_by w.table es)) n)
+
+all_notes_push : (T U : Table) (es : List Entry) (rs : List Reply) (x : Entry) → Replay T es rs U → notes_of T (es ++ x ∷ []) ≡ notes_of T es ++ note_of (renamed_by T es) (length (dying_by T es)) U x ∷ []
+all_notes_push T U es rs x h = notes_push T U [] 0 es rs x h ∙ ap (λ d. notes_of T es ++ note_of (renamed_by T es) d U x ∷ []) (omega arith)
+
+dying_push : (T U : Table) (es : List Entry) (rs : List Reply) (x : Entry) → Replay T es rs U → dying_by T (es ++ x ∷ []) ≡ dying_by T es ++ (work_of U x).dying
+dying_push T U [] [] x h = rw (h, append-nil) refl
+dying_push T U [] (r ∷ rs) x h = absurd h
+dying_push T U (e ∷ es) [] x h = absurd h
+dying_push T U (e ∷ es) (r ∷ rs) x h =
+    ap (λ ys. (work_of T e).dying ++ ys) (dying_push (work_of T e).table U es rs x (subst (λ M. Replay M es rs U) h.1.table h.2))
+    ∙ sym (append_assoc (work_of T e).dying (dying_by (work_of T e).table es) (work_of U x).dying)
+
+renamed_push : (T U : Table) (es : List Entry) (rs : List Reply) (x : Entry) → Replay T es rs U → renamed_by T (es ++ x ∷ []) ≡ renamed_by T es ++ (work_of U x).renamed
+renamed_push T U [] [] x h = rw (h, append-nil) refl
+renamed_push T U [] (r ∷ rs) x h = absurd h
+renamed_push T U (e ∷ es) [] x h = absurd h
+renamed_push T U (e ∷ es) (r ∷ rs) x h =
+    ap (λ ys. (work_of T e).renamed ++ ys) (renamed_push (work_of T e).table U es rs x (subst (λ M. Replay M es rs U) h.1.table h.2))
+    ∙ sym (append_assoc (work_of T e).renamed (renamed_by (work_of T e).table es) (work_of U x).renamed)
+
+-- An id passes on at most once with each entry
+
+one_passes : (T : Table) (id : ℕ) (e : Event) → occurs id (passed_by T e) ≤ 1
+one_passes T id (event.Finish t) = go (thread_of T t)
+  where
+    one : (g : ℕ) (b : Bool) → (if b then 1 else 0) + 0 ≤ 1
+    one g true = omega arith
+    one g false = omega arith
+
+    by : (g : ℕ) (b : Bool) → occurs id (if b then g ∷ [] else []) ≤ 1
+    by g true = one g (g == id)
+    by g false = omega arith
+
+    go : (o : Option Thread) → occurs id (passed_id o) ≤ 1
+    go None = omega arith
+    go (Some t) = by t.group (is_execing t.life && not (is_leader t))
+one_passes T id _ = omega arith
+
+few_pass : (T : Table) (id : ℕ) (es : List Entry) → occurs id (renamed_by T es) ≤ length es
+few_pass T id [] = omega arith
+few_pass T id (e ∷ es) =
+    let w = work_of T e in
+    omega (arith, occurs-append id w.renamed (renamed_by w.table es), few_pass w.table id es, one_passes T id e.event, ap (occurs id) (passed_is T e))
+
+pub few_times : (T : Table) (es : List Entry) (ns : List Note) (gs : List ℕ) (ps : List Passed) → IsNoted T es ns gs ps → length es < 2 ^ 32 → (id : ℕ) → times id ps < 2 ^ 32
+few_times T es ns gs ps n l id = omega (arith, few_pass T id es, n.passed id, l)
+
+-- One entry more
+
+pub noted_begins : (T : Table) → IsNoted T [] [] [] []
+noted_begins T = record { notes = refl; dying = refl; passed = λ id. refl }
+
+pub noted_goes_on : (k : State) (x : Entry) (ns : List Note) (gs : List ℕ) (ps : List Passed) → IsHistory k → IsNoted (table_of k.start) k.journal ns gs ps → check k.table x.actor x.event ≡ Ok (Due x.choice)
+    → IsNoted (table_of k.start) (k.journal ++ x ∷ []) (ns ++ noted ps (length gs) k.table x ∷ []) (gs ++ (work_of k.table x).dying) (all_bumped (passed_by k.table x.event) ps)
+noted_goes_on k x ns gs ps h n d =
+    let T = table_of k.start in
+    let start = is_start k.start h.good in
+    let sorted = waiting_is_sorted T k.table k.journal k.replies start h.replayed in
+    let distinct = ids_are_distinct T k.table k.journal k.replies start h.replayed in
+    let one : noted ps (length gs) k.table x ≡ note_of (renamed_by T k.journal) (length (dying_by T k.journal)) k.table x
+      = noted_is k.table (renamed_by T k.journal) ps n.passed sorted distinct (length gs) x d ∙ ap (λ y. note_of (renamed_by T k.journal) (length y) k.table x) n.dying in
+    record {
+      notes = ap₂ (λ xs y. xs ++ y ∷ []) n.notes one ∙ sym (all_notes_push T k.table k.journal k.replies x h.replayed);
+      dying = ap (λ y. y ++ (work_of k.table x).dying) n.dying ∙ sym (dying_push T k.table k.journal k.replies x h.replayed);
+      passed = λ id.
+        times_all id (passed_by k.table x.event) ps
+        ∙ (ap₂ (λ a b. a + b) (n.passed id) (ap (occurs id) (sym (passed_is k.table x)))
+        ∙ (sym (occurs-append id (renamed_by T k.journal) (work_of k.table x).renamed) ∙ ap (occurs id) (sym (renamed_push T k.table k.journal k.replies x h.replayed))));
+    }
