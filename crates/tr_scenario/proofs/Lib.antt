@@ -11,3 +11,4 @@ pub mod StatusTexts
 pub mod Texts
 pub mod Walks
 pub mod Wholes
+pub mod Workers
