@@ -1,0 +1,5 @@
+pub mod Counts
+pub mod Gaps
+pub mod Joins
+pub mod Said
+pub mod Walks

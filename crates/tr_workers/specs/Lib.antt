@@ -1,0 +1,5 @@
+pub mod Follows
+pub mod Runs
+pub mod Settled
+pub mod Tallies
+pub mod Turns

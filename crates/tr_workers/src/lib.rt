@@ -1,0 +1,24 @@
+//! Scripts of calls, each made by a worker of its own on a thread of its own, and whether what the workers were told is
+//! what the kernel holds.
+#![tactic(auto)]
+
+mod ports;
+mod receipts;
+mod runs;
+mod sameness;
+mod scripts;
+mod seat_ports;
+mod settling;
+mod starts;
+mod teams;
+mod working;
+
+pub use ports::{Gate, Port, Told};
+pub use receipts::Receipts;
+pub use runs::{RunFault, run};
+pub use scripts::{Item, Script};
+pub use settling::{Unsettled, settle};
+pub use working::{Ended, Tally, work};
+
+#[cfg(test)]
+mod tests;
