@@ -10,5 +10,6 @@ pub mod RunTexts
 pub mod Scenarios
 pub mod Serial
 pub mod Sources
+pub mod Threaded
 pub mod Told
 pub mod Writers

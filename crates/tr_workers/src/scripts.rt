@@ -63,8 +63,8 @@ impl Calls<'_> {
     }
 }
 
-#[tactic(auto, using(crate::proofs::Walks::after_one))]
 /// The first call that is left, and what is left after it.
+#[tactic(auto, using(crate::proofs::Walks::after_one))]
 fn first_left(items: &[Item], done: u32) -> Option<(Event, &[Item], u32)>
     ensures { MatchOption result (events_after done items.now ≡ []) (λ r. events_after done items.now ≡ r.0 ∷ events_after r.2 r.1.now) }
 {

@@ -1,16 +1,19 @@
-ghost use Rattle.std.specs.Prelude.{◌≡◌, ◌<◌, ◌^◌, IfOk, vec_len, length};
+ghost use Rattle.std.specs.Prelude.{◌≡◌, ◌≤◌, ◌<◌, ◌^◌, IfOk, vec_len, length};
 
 mod gates;
 mod memory;
 mod places;
 
 use super::*;
+use crate::sameness::Same;
 use gates::{Meeting, Open, Second};
 use std::alloc::Global;
 use std::fmt::Debug;
 use std::process::Abort;
 use std::slice;
+use std::sync::Wait;
 use std::test::Fail;
+use std::thread::Threads;
 use tr_model::Event;
 use tr_sigset::{SigSet, Signal};
 use tr_table::{GroupStart, Items, Start};
@@ -33,7 +36,7 @@ fn start(alloc: Global) -> Result<Start, Fail> {
     let usr1 = Signal::new(10).ok_or("not a signal")?;
     let group = GroupStart {
         tgid: 10,
-        name: item(alloc, b'd')?,
+        name: Items::from_vec(Vec::from_array(alloc, *b"demo")?),
         actions: Items::new(alloc),
         threads: item(alloc, (10, SigSet::empty().with(usr1)))?,
     };
@@ -72,19 +75,40 @@ fn all_made(rt: &impl Abort, workers: &[Receipts], number: usize) {
     }
 }
 
-#[test]
-fn two_scripts_are_run_and_settle(rt: HostRuntime) -> Result<(), Fail> {
-    let alloc = rt.alloc();
-    let scripts = two(alloc)?;
-    let (kernel, asked, workers) = run(&rt, alloc, &Open, start(alloc)?, &scripts, 1000)?;
-    all_made(&rt, &workers, 2);
+/// That two workers send a signal 100 times each, of which one instance waits, and that this settles.
+fn run_two<T: Abort + Threads + Wait + Sync>(
+    rt: &T,
+    alloc: Global,
+    scripts: &[Script],
+) -> Result<(), Fail>
+    requires { length scripts.now ≤ 64 }
+{
+    let (kernel, asked, workers) = run(rt, alloc, &Open, start(alloc)?, scripts, 1000)?;
+    all_made(rt, &workers, 2);
     let totals = kernel.totals();
     same(
-        &rt,
+        rt,
         &(totals.accepted, totals.pending, totals.merged),
         &(200, 1, 199),
     );
-    same(&rt, &settle(&kernel, &asked, &workers), &Ok(()));
+    same(rt, &settle(&kernel, &asked, &workers), &Ok(()));
+    Ok(())
+}
+
+#[test]
+fn two_scripts_are_run_and_settle_each_time(rt: HostRuntime) -> Result<(), Fail> {
+    let alloc = rt.alloc();
+    let scripts = two(alloc)?;
+    for _ in 0..20 {
+        run_two(&rt, alloc, &scripts)?;
+    }
+    Ok(())
+}
+
+#[test]
+fn start_equals_its_copy(rt: HostRuntime) -> Result<(), Fail> {
+    let start = start(rt.alloc())?;
+    same(&rt, &start.copy(rt.alloc())?.same(&start), &true);
     Ok(())
 }
 

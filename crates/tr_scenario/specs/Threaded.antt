@@ -1,0 +1,111 @@
+-- A run of workers: one for each actor of a scenario, and the text of what they leave.
+use Rattle.std.specs.Prelude.{◌≡◌, ◌⊎◌, ℕ, ◌<◌, ◌≤◌, ◌==◌, List, [], ◌∷◌, ◌++◌, codes, decimal, length, sum_by, if◌then◌else◌, Result, Ok, Err}
+use Rattle.tr_table.specs.declared.starts.Start.{Start}
+use Rattle.tr_table.specs.Starts.{table_of}
+use Rattle.tr_kernel.specs.States.{State}
+use Rattle.tr_hub.specs.declared.answers.Asked.{Asked}
+use Rattle.tr_hub.specs.Kept.{IsKept}
+use Rattle.tr_status.specs.Texts.{texts}
+use Rattle.tr_status.specs.Writing.{IsFront}
+use Rattle.tr_workers.specs.declared.receipts.Receipts.{Receipts}
+use Rattle.tr_workers.specs.declared.scripts.Item.{Item}
+use Rattle.tr_workers.specs.declared.scripts.Script.{Script}
+use Rattle.tr_workers.specs.declared.working.Ended.{Ended}
+use Rattle.tr_workers.specs.declared.working.Ended.TheVariants.{AtEnd, OutOfTurns}
+use Rattle.tr_workers.specs.Runs.{AreDone, tasks}
+use Rattle.tr_workers.specs.Settled.{IsSettled}
+use Rattle.tr_scenario.specs.declared.faults.ScenarioFault.{ScenarioFault}
+use Rattle.tr_scenario.specs.declared.faults.ScenarioFault.TheVariants.{NoMemory, TooLarge, Unsettled}
+use Rattle.tr_scenario.specs.declared.steps.Scenario.{Scenario}
+use Rattle.tr_scenario.specs.declared.steps.Step.{Step}
+use Rattle.tr_scenario.specs.Kernels.{so_far}
+use Rattle.tr_scenario.specs.Printing.{IsHalt}
+use Rattle.tr_scenario.specs.RunTexts.{end_text}
+use Rattle.tr_scenario.specs.Serial.{Devices, HasRead, IsRefused, IsUnread}
+
+-- Scripts
+
+abbrev pub item_of : Step → Item
+item_of s = record { event = s.event; times = s.times }
+
+-- of a single step
+abbrev pub script_of : Step → Script
+script_of s = record { actor = s.actor; items = item_of s ∷ [] }
+
+-- a step goes to its actor's script, which comes last where it is new
+abbrev pub with_step : List Script → Step → List Script
+with_step [] s = script_of s ∷ []
+with_step (x ∷ xs) s = if x.actor == s.actor then record { actor = x.actor; items = x.items ++ item_of s ∷ [] } ∷ xs else x ∷ with_step xs s
+
+abbrev pub with_steps : List Script → List Step → List Script
+with_steps xs [] = xs
+with_steps xs (s ∷ ss) = with_steps (with_step xs s) ss
+
+-- a script for each actor, in order of first appearance
+abbrev pub scripts_of : List Step → List Script
+scripts_of ss = with_steps [] ss
+
+-- The text
+
+abbrev pub end_of : Ended → List ℕ
+end_of AtEnd = codes "end"
+end_of OutOfTurns = codes "turns"
+
+unfoldable pub worker_line : Receipts → List ℕ
+worker_line w = texts (
+    codes "worker " ∷ decimal w.actor ∷
+    codes " entries " ∷ decimal w.entries ∷
+    codes " accepted " ∷ decimal w.accepted ∷
+    codes " refused " ∷ decimal w.refused ∷
+    codes " " ∷ end_of w.outcome ∷ codes "\n" ∷ [])
+
+abbrev pub worker_lines : List Receipts → List ℕ
+worker_lines [] = []
+worker_lines (w ∷ ws) = worker_line w ++ worker_lines ws
+
+-- the workers, the statuses, and the totals
+abbrev pub workers_text : State → List Receipts → List ℕ
+workers_text k ws = worker_lines ws ++ end_text (table_of k.start) (so_far k)
+
+abbrev pub settled_text : State → List Receipts → List ℕ
+settled_text k ws = workers_text k ws ++ codes "settled\n"
+
+-- what at most 64 workers leave: each has followed its script within the turns, and their entries and accepted signals are those of the journal and the table
+pub record IsRun (start : Start) (scripts : List Script) (turns : ℕ) (k : State) (asked : List Asked) (ws : List Receipts) : Type 0 where
+  pub few : length scripts ≤ 64
+  pub begun : k.start ≡ start
+  pub kept : IsKept (record { kernel = k; asked = asked })
+  pub done : AreDone (tasks scripts turns) ws
+  pub entries : length k.journal ≡ sum_by (λ (w : Receipts). w.entries) ws
+  pub accepted : k.table.accepted ≡ sum_by (λ (w : Receipts). w.accepted) ws
+
+-- What is printed
+
+-- the whole text of what workers leave, where it settles; else all but the line `settled`, or a front of the text, and
+-- then the run halted
+abbrev pub PrintsRun : {X : Type 0} → List ℕ → List ℕ → ℕ → ℕ → State → List Asked → List Receipts → Result X ScenarioFault → Type 0
+PrintsRun old new failures failures_new k asked ws (Ok x) = IsSettled k asked ws × (new ≡ old ++ settled_text k ws) × (failures_new ≡ failures)
+PrintsRun old new failures failures_new k asked ws (Err e) =
+    (IsFront old new (settled_text k ws) × IsHalt e failures failures_new)
+    ⊎ ((e ≡ Unsettled) × (IsSettled k asked ws → ⊥) × (new ≡ old ++ workers_text k ws) × (failures_new ≡ failures))
+
+-- there is no run to print: more than 64 actors, want of memory, or no kernel of this start from the hub
+abbrev pub IsUnrun : List Script → ScenarioFault → Type 0
+IsUnrun scripts e = ((64 < length scripts) × (e ≡ TooLarge)) ⊎ (((length scripts ≤ 64) × (e ≡ Unsettled)) ⊎ (e ≡ NoMemory))
+
+-- the scripts are run and what is left is printed
+abbrev pub RunsWorkers : {X : Type 0} → List ℕ → List ℕ → ℕ → ℕ → Start → List Script → ℕ → Result X ScenarioFault → Type 0
+RunsWorkers old new failures failures_new start scripts turns (Ok x) =
+    (k : State) × (asked : List Asked) × (ws : List Receipts) × IsRun start scripts turns k asked ws × PrintsRun {X = Unit {0}} old new failures failures_new k asked ws (Ok tt)
+RunsWorkers old new failures failures_new start scripts turns (Err e) =
+    (IsUnrun scripts e × (new ≡ old) × (failures_new ≡ failures))
+    ⊎ ((k : State) × (asked : List Asked) × (ws : List Receipts) × IsRun start scripts turns k asked ws × PrintsRun {X = Unit {0}} old new failures failures_new k asked ws (Err e))
+
+-- By what reader and writer show
+
+abbrev pub RunsThreaded : {X : Type 0} → Devices → Devices → ℕ → Result X ScenarioFault → Type 0
+RunsThreaded old new turns (Ok x) =
+    (bytes : List ℕ) × (s : Scenario) × HasRead old new bytes s × RunsWorkers {X = Unit {0}} old.taken new.taken old.failures new.failures s.start (scripts_of s.steps) turns (Ok tt)
+RunsThreaded old new turns (Err e) =
+    (bytes : List ℕ) × (IsRefused old new bytes e ⊎ (IsUnread old new bytes e
+    ⊎ ((s : Scenario) × HasRead old new bytes s × RunsWorkers {X = Unit {0}} old.taken new.taken old.failures new.failures s.start (scripts_of s.steps) turns (Err e))))
