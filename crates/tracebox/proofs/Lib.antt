@@ -1,2 +1,2 @@
-pub mod Numerals
+pub mod Digits
 pub mod Refusals

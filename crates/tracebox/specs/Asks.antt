@@ -1,14 +1,15 @@
 -- What the words of a command line ask for.
-use Rattle.std.specs.Prelude.{◌≡◌, ◌⊎◌, ℕ, Bool, true, ◌&&◌, List, [], length, nat_le, codes, if◌then◌else◌, Option, Some, None, Result, Ok, Err}
+use Rattle.std.specs.Prelude.{◌≡◌, ◌⊎◌, ◌≤◌, ℕ, Bool, true, ◌&&◌, List, [], length, nat_le, codes, if◌then◌else◌, Option, Some, None, Result, Ok, Err}
 use Rattle.std.specs.Char.{is_ascii_hexdigit}
 use Rattle.std.specs.List.{list_all}
 use Rattle.std.specs.Str.{bytes_eq}
-use Rattle.std.specs.Str.Parse.{digits_value}
+use Rattle.std.specs.Str.Parse.{digits_value, without_leading_plus}
+use Rattle.clap.specs.ValueTests.{is_unsigned_in}
 use Rattle.clap.specs.Words.{IsAmong, Kinds, Row, Text, fault_of, first_of, subcommand_of, takes}
 use Rattle.clap.specs.declared.error.kind.ErrorKind.{ErrorKind}
 use Rattle.clap.specs.declared.error.kind.ErrorKind.TheVariants as kind
 use Rattle.tracebox.specs.declared.asking.Ask.{Ask}
-use Rattle.tracebox.specs.declared.asking.Ask.TheVariants.{Serial, Decode}
+use Rattle.tracebox.specs.declared.asking.Ask.TheVariants.{Serial, Threads, Decode}
 use Rattle.tracebox.specs.declared.asking.AskFault.{AskFault}
 use Rattle.tracebox.specs.declared.asking.AskFault.TheVariants.{Help, Usage, NoMemory}
 use Rattle.tracebox.specs.CommandLine.{tracebox}
@@ -28,9 +29,29 @@ abbrev pub word_asked : Option Text → Result Ask AskFault
 word_asked None = Err Usage
 word_asked (Some t) = decode_asked (numeral_value t)
 
+-- a whole number from 1 to 100,000,000
+abbrev pub turns_value : Text → Option ℕ
+turns_value t = if is_unsigned_in 1 100000000 t then Some (digits_value 10 (without_leading_plus t)) else None
+
+abbrev pub threads_asked : Option ℕ → Result Ask AskFault
+threads_asked None = Err Usage
+threads_asked (Some n) = Ok (Threads n)
+
+abbrev pub turns_asked : Option Text → Result Ask AskFault
+turns_asked None = Err Usage
+turns_asked (Some t) = threads_asked (turns_value t)
+
 -- what a subcommand asks for, by its name and the rows of its matches
 abbrev pub named : Text → List Row → Result Ask AskFault
-named name rows = if bytes_eq name (codes "serial") then Ok Serial else (if bytes_eq name (codes "decode") then word_asked (first_of (codes "WORD") rows) else Err Usage)
+named name rows =
+    if bytes_eq name (codes "serial") then Ok Serial
+    else (if bytes_eq name (codes "threads") then turns_asked (first_of (codes "turns") rows)
+    else (if bytes_eq name (codes "decode") then word_asked (first_of (codes "WORD") rows) else Err Usage))
+
+-- the turns of a run by threads are 1 to 100,000,000
+abbrev pub HasTurns : Ask → Type 0
+HasTurns (Threads n) = (1 ≤ n) × (n ≤ 100000000)
+HasTurns _ = Unit {0}
 
 abbrev pub asked_by : Option (Text × List Row) → Result Ask AskFault
 asked_by None = Err Usage

@@ -1,7 +1,8 @@
 -- The command line of the program, as clap's own model has commands.
-use Rattle.std.specs.Prelude.{true, codes, Some}
+use Rattle.std.specs.Prelude.{true, codes, Some, [], ◌∷◌}
 use Rattle.clap.specs.Words.{App, Rule, new_app, new_rule, with_rule, with_subcommand}
 use Rattle.clap.specs.declared.builder.action.ArgAction.TheVariants.{Set}
+use Rattle.clap.specs.declared.builder.value_parser.ValueParser.TheVariants.{Unsigned}
 
 -- the command by itself, which has a version and wants one of its subcommands
 abbrev pub bare : App
@@ -10,11 +11,22 @@ bare = let a = new_app (codes "tracebox") in record a { top = record a.top { has
 abbrev pub serial_app : App
 serial_app = new_app (codes "serial")
 
+abbrev pub turns_rule : Rule
+turns_rule = record (new_rule (codes "turns")) { long = Some (codes "turns"); action = Some Set; value_names = 1; defaults = codes "100000" ∷ []; parser = Some (Unsigned 1 100000000) }
+
+abbrev pub threads_app : App
+threads_app = with_rule (new_app (codes "threads")) turns_rule
+
 abbrev pub word_rule : Rule
 word_rule = record (new_rule (codes "WORD")) { action = Some Set; required = true }
 
 abbrev pub decode_app : App
 decode_app = with_rule (new_app (codes "decode")) word_rule
 
+-- with the words that run a scenario
+abbrev pub runs_app : App
+runs_app = with_subcommand (with_subcommand bare serial_app.top) threads_app.top
+
+-- and with the word that tells a status
 abbrev pub tracebox : App
-tracebox = with_subcommand (with_subcommand bare serial_app.top) decode_app.top
+tracebox = with_subcommand runs_app decode_app.top

@@ -10,8 +10,9 @@ use Rattle.tr_scenario.specs.declared.faults.ScenarioFault.{ScenarioFault}
 use Rattle.tr_scenario.specs.declared.faults.ScenarioFault.TheVariants as scenario
 use Rattle.tr_scenario.specs.Serial.{Devices, Runs}
 use Rattle.tr_scenario.specs.Sources.{Shown}
+use Rattle.tr_scenario.specs.Threaded.{RunsThreaded}
 use Rattle.tracebox.specs.declared.asking.Ask.{Ask}
-use Rattle.tracebox.specs.declared.asking.Ask.TheVariants.{Serial, Decode}
+use Rattle.tracebox.specs.declared.asking.Ask.TheVariants.{Serial, Threads, Decode}
 use Rattle.tracebox.specs.declared.asking.AskFault.{AskFault}
 use Rattle.tracebox.specs.declared.asking.AskFault.TheVariants as asking
 use Rattle.tracebox.specs.declared.faults.Fault.{Fault}
@@ -60,6 +61,7 @@ module _ {R W : Type 0} (shown : R → Shown) (taken : W → List ℕ) (failures
   -- what is done of what was asked for: the reader is read by a run alone
   abbrev pub Does : Result Ask AskFault → R → R → W → W → Result ⊤ Fault → Type 0
   Does (Ok Serial) r_old r_new w_old w_new result = (run : Result ⊤ ScenarioFault) × Runs (devices r_old w_old) (devices r_new w_new) run × (result ≡ run_result run)
+  Does (Ok (Threads turns)) r_old r_new w_old w_new result = (run : Result ⊤ ScenarioFault) × RunsThreaded (devices r_old w_old) (devices r_new w_new) turns run × (result ≡ run_result run)
   Does (Ok (Decode w)) r_old r_new w_old w_new result = (r_new ≡ r_old) × Decodes taken failures w_old w_new w result
   Does (Err asking.Help) r_old r_new w_old w_new result = (r_new ≡ r_old) × Helps taken failures w_old w_new result
   Does (Err asking.Usage) r_old r_new w_old w_new result = (r_new ≡ r_old) × (w_new ≡ w_old) × (result ≡ Err Usage)

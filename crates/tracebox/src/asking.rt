@@ -1,9 +1,9 @@
-ghost use Rattle.std.specs.Prelude.{◌≡◌, map, option_map};
+ghost use Rattle.std.specs.Prelude.{◌≡◌, IfOk, map, option_map};
 ghost use Rattle.clap.specs.Words.{first_of, found_of, rows_of, subcommand_rows_of};
-ghost use Rattle.tracebox.specs.Asks.{Answers, Blames, asked_by, fault_at, named, word_asked};
+ghost use Rattle.tracebox.specs.Asks.{Answers, Blames, HasTurns, asked_by, fault_at, named, turns_asked, word_asked};
 
 use crate::commands::command;
-use crate::hexadecimal::numeral;
+use crate::numerals::{hexadecimal, turns};
 use clap::ArgMatches;
 use clap::error::ErrorKind;
 use std::alloc::{AllocError, Global};
@@ -15,6 +15,8 @@ use tr_wait::Word;
 pub enum Ask {
     /// Run the scenario on standard input, one call after another.
     Serial,
+    /// Run it by workers on threads, each with so many turns, 1 to 100,000,000.
+    Threads(u64),
     /// Tell the status of this word.
     Decode(Word),
 }
@@ -30,12 +32,14 @@ pub enum AskFault {
     NoMemory,
 }
 
-/// What the words of a command line ask for, of which the first is the program's name: `serial`, or `decode` and a
-/// word of 1 to 8 hexadecimal digits of either case without a prefix. `Usage` for a word of another form. Where `clap`
-/// doesn't take the words, `Help` if they want help or the version, else `Usage`. `NoMemory` where memory is refused.
+/// What the words of a command line ask for, of which the first is the program's name: `serial`; `threads`, with the
+/// turns of each worker, 100,000 where none are given; or `decode` and a word of 1 to 8 hexadecimal digits of either case
+/// without a prefix. `Usage` for a word of another form. Where `clap` doesn't take the words, `Help` if they want help or
+/// the version, else `Usage`. `NoMemory` where memory is refused.
 pub fn asked<'a, S: AsStr>(alloc: Global, words: &'a [S]) -> Result<Ask, AskFault>
     ensures answers { Answers (map S.text words.entry.now) result }
     ensures blames { Blames (map S.text words.entry.now) result }
+    ensures turns { IfOk result HasTurns }
 {
     let Ok(command) = command(alloc) else {
         return Err(AskFault::NoMemory);
@@ -65,7 +69,8 @@ fn fault_at(kind: ErrorKind) -> AskFault
 }
 
 fn ask_of(matches: &ArgMatches<'_>) -> Result<Ask, AskFault>
-    ensures { result ≡ asked_by (subcommand_rows_of matches.now) }
+    ensures asked { result ≡ asked_by (subcommand_rows_of matches.now) }
+    ensures turns { IfOk result HasTurns }
 {
     match matches.subcommand() {
         Some((name, inner)) => named_ask(name, inner),
@@ -74,10 +79,13 @@ fn ask_of(matches: &ArgMatches<'_>) -> Result<Ask, AskFault>
 }
 
 fn named_ask(name: &str, matches: &ArgMatches<'_>) -> Result<Ask, AskFault>
-    ensures { result ≡ named name.now (rows_of (found_of matches.now)) }
+    ensures named { result ≡ named name.now (rows_of (found_of matches.now)) }
+    ensures turns { IfOk result HasTurns }
 {
     if name == "serial" {
         Ok(Ask::Serial)
+    } else if name == "threads" {
+        threads_ask(value(matches, "turns"))
     } else if name == "decode" {
         decode_ask(value(matches, "WORD"))
     } else {
@@ -85,11 +93,25 @@ fn named_ask(name: &str, matches: &ArgMatches<'_>) -> Result<Ask, AskFault>
     }
 }
 
-fn decode_ask(text: Option<&str>) -> Result<Ask, AskFault>
-    ensures { result ≡ word_asked (option_map (λ t. t.now) text.entry) }
+fn threads_ask(text: Option<&str>) -> Result<Ask, AskFault>
+    ensures asked { result ≡ turns_asked (option_map (λ t. t.now) text.entry) }
+    ensures turns { IfOk result HasTurns }
 {
     match text {
-        Some(text) => match numeral(text) {
+        Some(text) => match turns(text) {
+            Some(turns) => Ok(Ask::Threads(turns)),
+            None => Err(AskFault::Usage),
+        },
+        None => Err(AskFault::Usage),
+    }
+}
+
+fn decode_ask(text: Option<&str>) -> Result<Ask, AskFault>
+    ensures asked { result ≡ word_asked (option_map (λ t. t.now) text.entry) }
+    ensures turns { IfOk result HasTurns }
+{
+    match text {
+        Some(text) => match hexadecimal(text) {
             Some(bits) => Ok(Ask::Decode(Word(bits))),
             None => Err(AskFault::Usage),
         },

@@ -1,18 +1,22 @@
 ghost use Rattle.std.specs.Prelude.{◌≡◌, IfOk, false};
 ghost use Rattle.clap.specs.Words.{app_of};
 ghost use Rattle.clap.specs.declared.builder.command.Command.TheViews.{out-Command as fields_of};
-ghost use Rattle.tracebox.specs.CommandLine.{decode_app, serial_app, tracebox};
+ghost use Rattle.tracebox.specs.CommandLine.{decode_app, runs_app, serial_app, threads_app, tracebox};
 
+use clap::builder::ValueParser;
 use clap::{Arg, ArgAction, Command};
 use std::alloc::{AllocError, Global};
 
 const VERSION: &str = "0.1.0";
 
+/// The most turns of each worker.
+pub(crate) const MOST_TURNS: u64 = 100_000_000;
+
 const PROGRAM_END: &str =
-    "`serial` reads a scenario on standard input, `decode` nothing but its WORD. Both print on standard\n\
-output. A fault goes to standard error, as `tracebox: ` and its name. Exit status: 0 done, also\n\
-help; 1 the input is refused, or no status has the word; 2 the command line isn't one of these;\n\
-3 memory, the reader or the writer failed.\n\n\
+    "`serial` and `threads` read a scenario on standard input, `decode` nothing but its WORD. All print\n\
+on standard output. A fault goes to standard error, as `tracebox: ` and its name. Exit status: 0\n\
+done, also help; 1 the input is refused, no status has the word, or a run doesn't settle; 2 the\n\
+command line isn't one of these; 3 memory, the reader or the writer failed.\n\n\
 Example:\n  \
 tracebox serial < scenario.json";
 
@@ -27,6 +31,18 @@ echo '{\"version\":1,\"limit\":4,\"entries\":9,\"groups\":[{\"tgid\":10,\"name\"
 tracebox serial\n\
 prints `#1 900 kill sent 1 pending`, the thread's status, and the totals.";
 
+const THREADS: &str =
+    "Runs the scenario on standard input by workers, each on a thread of its own.\n\n\
+Reads the same scenario as `serial`, with at most 64 actors. Each actor is a worker, and makes its\n\
+own steps in their order; which worker comes first is open. Prints a line for each worker, then the\n\
+status of each thread, then how many signals were accepted and what became of them, and `settled`\n\
+where what the workers were told is what the kernel holds.";
+
+const THREADS_END: &str = "Example:\n  \
+tracebox threads --turns 1000 < scenario.json\n\
+prints for each worker a line as `worker 900 entries 100 accepted 100 refused 0 end`. The line ends in\n\
+`turns` where the worker's turns were used up before its steps.";
+
 const DECODE: &str = "Tells the status that a wait status word has, as waitpid(2) gives it.\n\n\
 Prints one line: exited CODE, killed SIGNAL, stopped SIGNAL, event clone, event exec, event exit,\n\
 event stop SIGNAL or continued.";
@@ -40,13 +56,21 @@ pub(crate) fn command<'a>(alloc: Global) -> Result<Command<'a>, AllocError>
     ensures { IfOk result (λ c. app_of c ≡ tracebox) }
 {
     let decode = decode_command(alloc)?;
+    runs_command(alloc)?.subcommand(decode)
+}
+
+/// The command line without its word `decode`.
+fn runs_command<'a>(alloc: Global) -> Result<Command<'a>, AllocError>
+    ensures { IfOk result (λ c. app_of c ≡ runs_app) }
+{
+    let threads = threads_command(alloc)?;
     let command = Command::new(alloc, "tracebox")
         .about("A model kernel of Linux process tracing")
         .after_help(PROGRAM_END)
         .version(VERSION)
         .subcommand_required(true);
     let command = command.subcommand(serial_command(alloc))?;
-    command.subcommand(decode)
+    command.subcommand(threads)
 }
 
 fn serial_command<'a>(alloc: Global) -> Command<'a>
@@ -57,6 +81,24 @@ fn serial_command<'a>(alloc: Global) -> Command<'a>
         .about("Runs the scenario on standard input, one call after another")
         .long_about(SERIAL)
         .after_help(SERIAL_END)
+}
+
+fn threads_command<'a>(alloc: Global) -> Result<Command<'a>, AllocError>
+    ensures app { IfOk result (λ c. app_of c ≡ threads_app) }
+    ensures local { IfOk result (λ c. (fields_of c).has_globals ≡ false) }
+{
+    let turns = Arg::new(alloc, "turns")
+        .long("turns")
+        .value_name("N")
+        .help("How many turns each worker has, 1 to 100,000,000: each call takes one")
+        .action(ArgAction::Set)
+        .value_parser(ValueParser::Unsigned(1, MOST_TURNS))
+        .default_value("100000");
+    Command::new(alloc, "threads")
+        .about("Runs the scenario on standard input by workers, each on a thread of its own")
+        .long_about(THREADS)
+        .after_help(THREADS_END)
+        .arg(turns)
 }
 
 fn decode_command<'a>(alloc: Global) -> Result<Command<'a>, AllocError>

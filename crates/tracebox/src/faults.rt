@@ -54,7 +54,7 @@ impl Fault {
         }
     }
 
-    /// The exit status: 1 for refused input, 2 for a command line, 3 for memory or a device.
+    /// The exit status: 1 for refused input and what doesn't settle, 2 for a command line, 3 for memory or a device.
     pub fn status(self) -> u8
         ensures { result ≡ fault_status self }
     {

@@ -1,11 +1,11 @@
-//! The program `tracebox`: it runs scenarios and tells what wait status words mean.
+//! The program `tracebox`: it runs scenarios, call by call or by workers on threads, and tells what wait status words mean.
 #![tactic(auto)]
 
 mod asking;
 mod commands;
 mod faults;
-mod hexadecimal;
 mod meanings;
+mod numerals;
 mod performing;
 #[cfg(test)]
 mod tests;

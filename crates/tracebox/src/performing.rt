@@ -7,15 +7,17 @@ use crate::faults::Fault;
 use crate::meanings::{put_line, write_meaning};
 use std::alloc::Global;
 use std::convert::AsStr;
-use tr_scenario::{ScenarioFault, Source, serial};
+use std::sync::Wait;
+use std::thread::Threads;
+use tr_scenario::{ScenarioFault, Source, serial, threaded};
 use tr_status::{Sink, put_all};
 use tr_wait::{Word, decode};
 
 /// Does what the words of a command line ask for, of which the first is the program's name, and gives the exit status:
-/// 0, also after help, which goes to the writer; 1 for a refused input or a word that no status has, 2 for a command
-/// line that the program doesn't take, 3 where memory is refused or the reader or the writer fails. A fault goes to
-/// `faults` by its name. Where that can't be written the status stays.
-pub fn perform<T: AllocGlobal, S: AsStr, R: Source, W: Sink, E: Sink>(
+/// 0, also after help, which goes to the writer; 1 for a refused input, a word that no status has or a run that doesn't
+/// settle, 2 for a command line that the program doesn't take, 3 where memory is refused or the reader or the writer
+/// fails. A fault goes to `faults` by its name. Where that can't be written the status stays.
+pub fn perform<T: AllocGlobal + Threads + Wait + Sync, S: AsStr, R: Source, W: Sink, E: Sink>(
     rt: &T,
     words: &[S],
     reader: &mut R,
@@ -28,7 +30,7 @@ pub fn perform<T: AllocGlobal, S: AsStr, R: Source, W: Sink, E: Sink>(
     requires faults { E.failures faults.old < 2 ^ 64 - 1 }
     ensures { Performs R.shown W.taken W.failures E.taken E.failures (map S.text words.now) reader.old reader.new writer.old writer.new faults.old faults.new result }
 {
-    match attempt(rt.alloc(), words, reader, writer) {
+    match attempt(rt, rt.alloc(), words, reader, writer) {
         Ok(()) => 0,
         Err(fault) => report(fault, faults),
     }
@@ -44,7 +46,8 @@ pub fn report<E: Sink>(fault: Fault, faults: &mut E) -> u8
     fault.status()
 }
 
-fn attempt<S: AsStr, R: Source, W: Sink>(
+fn attempt<T: Threads + Wait + Sync, S: AsStr, R: Source, W: Sink>(
+    rt: &T,
     alloc: Global,
     words: &[S],
     reader: &mut R,
@@ -57,6 +60,7 @@ fn attempt<S: AsStr, R: Source, W: Sink>(
 {
     match asked(alloc, words) {
         Ok(Ask::Serial) => Ok(serial(alloc, reader, writer)?),
+        Ok(Ask::Threads(turns)) => Ok(threaded(rt, alloc, reader, writer, turns)?),
         Ok(Ask::Decode(word)) => write_decoded(word, writer),
         Err(AskFault::Help) => write_help(alloc, words, writer),
         Err(AskFault::Usage) => Err(Fault::Usage),

@@ -3,12 +3,20 @@ mod devices;
 mod large_groups;
 mod runs;
 mod stored;
+mod threads;
 
 use super::*;
 use devices::{SOUND, Ways, blank_page, new_feed};
 use std::fmt::Debug;
 use std::process::Abort;
+use std::sync::Wait;
 use std::test::Fail;
+use std::thread::Threads;
+
+/// What a command line is performed with, and what a test fails by.
+trait Machine: Abort + AllocGlobal + Threads + Wait + Sync {}
+
+impl<T: Abort + AllocGlobal + Threads + Wait + Sync> Machine for T {}
 
 /// What came of a command line.
 #[derive(Drop)]
@@ -19,7 +27,7 @@ struct Outcome {
 }
 
 /// Performs the words on devices in memory.
-fn done<T: AllocGlobal>(rt: &T, words: &[&str], input: &[u8], ways: Ways) -> Outcome {
+fn done(rt: &impl Machine, words: &[&str], input: &[u8], ways: Ways) -> Outcome {
     let mut reader = new_feed(rt.alloc(), input, ways);
     let mut writer = blank_page(rt.alloc(), ways.most, ways.failing_put);
     let mut faults = blank_page(rt.alloc(), ways.most, ways.failing_tell);
@@ -48,6 +56,6 @@ fn expect_outcome(rt: &impl Abort, done: &Outcome, want: (u8, &str, &str)) {
 }
 
 /// That the words, with an input on sound devices, come to this.
-fn expect<T: Abort + AllocGlobal>(rt: &T, words: &[&str], input: &str, want: (u8, &str, &str)) {
+fn expect(rt: &impl Machine, words: &[&str], input: &str, want: (u8, &str, &str)) {
     expect_outcome(rt, &done(rt, words, input.as_bytes(), SOUND), want);
 }

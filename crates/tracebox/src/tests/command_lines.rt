@@ -52,7 +52,7 @@ fn a_word_is_of_another_form(rt: HostRuntime) {
     }
 }
 
-fn expect_usage<T: Abort + AllocGlobal>(rt: &T, words: &[&str]) {
+fn expect_usage(rt: &impl Machine, words: &[&str]) {
     expect(rt, words, "", (2, "", "tracebox: Usage\n"));
 }
 
@@ -69,7 +69,7 @@ fn a_command_line_is_not_taken(rt: HostRuntime) {
 }
 
 /// That the words are answered with a text in which each of these stands.
-fn expect_help<T: Abort + AllocGlobal>(rt: &T, words: &[&str], parts: &[&str]) {
+fn expect_help(rt: &impl Machine, words: &[&str], parts: &[&str]) {
     let done = done(rt, words, b"", SOUND);
     same(rt, &done.status, &0);
     same(rt, &text(&done.told), &"");
@@ -145,7 +145,7 @@ fn faults_have_statuses(rt: HostRuntime) {
 }
 
 /// That the words end with this status where no fault can be told.
-fn expect_untold<T: Abort + AllocGlobal>(rt: &T, words: &[&str], failing_put: usize, status: u8) {
+fn expect_untold(rt: &impl Machine, words: &[&str], failing_put: usize, status: u8) {
     let ways = Ways {
         failing_put,
         failing_tell: 1,
@@ -165,7 +165,7 @@ fn a_status_stays_where_its_fault_cannot_be_told(rt: HostRuntime) {
 }
 
 /// That so much is written where the writer, which takes five bytes a put, fails at one.
-fn expect_front<T: Abort + AllocGlobal>(rt: &T, words: &[&str], failing_put: usize, written: &str) {
+fn expect_front(rt: &impl Machine, words: &[&str], failing_put: usize, written: &str) {
     let ways = Ways {
         most: 5,
         failing_put,

@@ -22,7 +22,7 @@ fn scenario(rt: &impl AllocGlobal, last: u32) -> Result<String, Fail> {
 }
 
 /// That these lines stand in what is written of the scenario.
-fn expect_lines<T: Abort + AllocGlobal>(rt: &T, last: u32, lines: [&str; 2]) -> Result<(), Fail> {
+fn expect_lines(rt: &impl Machine, last: u32, lines: [&str; 2]) -> Result<(), Fail> {
     let input = scenario(rt, last)?;
     let done = done(rt, &["tracebox", "serial"], input.as_bytes(), SOUND);
     let written = text(&done.written);

@@ -9,7 +9,7 @@ const TEXT: &str =
 
 const SERIAL: [&str; 2] = ["tracebox", "serial"];
 
-fn run<T: AllocGlobal>(rt: &T, ways: Ways) -> Outcome {
+fn run(rt: &impl Machine, ways: Ways) -> Outcome {
     done(rt, &SERIAL, BLOCKED.as_bytes(), ways)
 }
 
@@ -45,7 +45,7 @@ fn a_reader_fails_at_each_call(rt: HostRuntime) {
 }
 
 /// That the writer that fails at a put, and at no other, took a front of the text.
-fn expect_front<T: Abort + AllocGlobal>(rt: &T, failing_put: usize) {
+fn expect_front(rt: &impl Machine, failing_put: usize) {
     let ways = Ways {
         most: 16,
         failing_put,
@@ -74,12 +74,7 @@ fn an_input_is_cut_anywhere(rt: HostRuntime) {
 }
 
 /// That the scenario with one part put in place of another is refused with this fault.
-fn expect_refused<T: Abort + AllocGlobal>(
-    rt: &T,
-    old: &str,
-    new: &str,
-    told: &str,
-) -> Result<(), Fail> {
+fn expect_refused(rt: &impl Machine, old: &str, new: &str, told: &str) -> Result<(), Fail> {
     let input = BLOCKED.replace(rt.alloc(), old, new)?;
     expect(rt, &SERIAL, &input, (1, "", told));
     Ok(())
@@ -130,7 +125,7 @@ fn an_input_is_refused(rt: HostRuntime) -> Result<(), Fail> {
 }
 
 /// That bytes that aren't a scenario are refused with this fault.
-fn expect_hostile<T: Abort + AllocGlobal>(rt: &T, input: &[u8], told: &str) {
+fn expect_hostile(rt: &impl Machine, input: &[u8], told: &str) {
     expect_outcome(rt, &done(rt, &SERIAL, input, SOUND), (1, "", told));
 }
 

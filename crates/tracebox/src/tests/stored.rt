@@ -22,14 +22,14 @@ fn is_text(rt: &impl Abort, value: &str, want: &str, shows: &str) {
     assert_eq!(rt; value, want, "{shows}");
 }
 
-fn expect_run<T: Abort + AllocGlobal>(rt: &T, run: &Run) {
+fn expect_run(rt: &impl Machine, run: &Run) {
     let done = done(rt, &["tracebox", "serial"], run.input.as_bytes(), SOUND);
     is_text(rt, text(&done.written), run.output, run.shows);
     is_text(rt, text(&done.told), "", run.shows);
     same(rt, &done.status, &0);
 }
 
-fn expect_runs<T: Abort + AllocGlobal>(rt: &T, runs: &[Run]) {
+fn expect_runs(rt: &impl Machine, runs: &[Run]) {
     for run in runs {
         expect_run(rt, run);
     }

@@ -1,12 +1,14 @@
-ghost use Rattle.std.specs.Prelude.{◌≡◌, MatchOption, IfSome, true, false};
+ghost use Rattle.std.specs.Prelude.{◌≡◌, ◌≤◌, MatchOption, IfSome, true, false};
 ghost use Rattle.std.specs.Char.{is_ascii_hexdigit};
 ghost use Rattle.std.specs.List.{list_all};
 ghost use Rattle.std.specs.Str.Parse.{digits_value};
-ghost use Rattle.tracebox.specs.Asks.{is_numeral, numeral_value};
+ghost use Rattle.tracebox.specs.Asks.{is_numeral, numeral_value, turns_value};
+
+use crate::commands::MOST_TURNS;
 
 /// The number of one to eight hexadecimal digits of either case. `None` for any other text, also for one with a prefix
 /// or a sign.
-pub(crate) fn numeral(text: &str) -> Option<u32>
+pub(crate) fn hexadecimal(text: &str) -> Option<u32>
     ensures { result ≡ numeral_value text.now }
 {
     if is_numeral(text.as_bytes()) {
@@ -26,4 +28,17 @@ fn all_digits(text: &[u8]) -> bool
     ensures { result ≡ list_all is_ascii_hexdigit text.now }
 {
     text.iter().all(|byte| byte.is_ascii_hexdigit())
+}
+
+/// A whole number from 1 to 100,000,000, of decimal digits, before which a plus may stand. `None` for any other text.
+pub(crate) fn turns(text: &str) -> Option<u64>
+    ensures value { result ≡ turns_value text.now }
+    ensures bounds { IfSome result (λ n. (1 ≤ n) × (n ≤ 100000000)) }
+{
+    let turns = text.parse::<u64>().ok()?;
+    if 1 <= turns && turns <= MOST_TURNS {
+        Some(turns)
+    } else {
+        None
+    }
 }

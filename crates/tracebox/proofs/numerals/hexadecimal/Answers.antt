@@ -1,7 +1,7 @@
 use Rattle.std.proofs.Common.{◌≡◌, ◌∙◌, ap, sym, true}
 use Rattle.tracebox.specs.Asks.{is_numeral}
-use Rattle.tracebox.proofs.Numerals.{reads}
-use Rattle.tracebox.proofs.hexadecimal.numeral.Goals as goal
+use Rattle.tracebox.proofs.Digits.{reads}
+use Rattle.tracebox.proofs.numerals.hexadecimal.Goals as goal
 
 pub returns-then-is_numeral : goal.returns-then-is_numeral
 returns-then-is_numeral c =
