@@ -2,12 +2,14 @@
 use Rattle.std.proofs.Common.{◌≡◌, ℕ, ◌+◌, ◌-◌, ◌<◌, suc, List, [], ◌∷◌, ◌++◌, length, map, replicate, refl, sym, ap, ◌∙◌, subst, arith, length-append, append_assoc, append-nil}
 use Rattle.std.specs.Prelude.{Option, Some, None, slice_get, MatchOption}
 use Rattle.tr_model.specs.declared.events.Event.{Event}
+use Rattle.tr_model.specs.declared.replies.Refusal.TheVariants.{NoMemory}
 use Rattle.tr_hub.specs.declared.answers.Answer.{Answer}
+use Rattle.tr_hub.specs.declared.answers.Answer.TheVariants.{Refused}
 use Rattle.tr_hub.specs.declared.answers.Receipt.{Receipt}
 use Rattle.tr_workers.specs.declared.scripts.Item.{Item}
 use Rattle.tr_workers.specs.declared.ports.Told.{Told}
 use Rattle.tr_workers.specs.declared.working.Ended.TheVariants.{AtEnd, OutOfTurns}
-use Rattle.tr_workers.specs.Follows.{Made, made, events_of, events_after, next_call, AreNext, receipts_in, told_in, receipts_of, told_of, IsAnswered, AreAnswered, answers_of, Follows}
+use Rattle.tr_workers.specs.Follows.{IsCutShort, Made, made, events_of, events_after, next_call, AreNext, receipts_in, told_in, receipts_of, told_of, IsAnswered, AreAnswered, answers_of, Follows}
 
 pub after_one : (i : Item) (rest : List Item) (done : ℕ) → done < i.times → events_after done (i ∷ rest) ≡ i.event ∷ events_after (done + 1) (i ∷ rest)
 after_one i rest done h =
@@ -103,6 +105,13 @@ not_at_end items count list told e left s =
     let at = same_length s.calls in
     let here : next_call items (answers_of s.calls) ≡ Some e = rw (at, s.left_is) (get_split (events_made s.calls) e left) in
     record { calls = s.calls; number = s.number; next = s.next; answered = s.answered; receipts = s.receipts; others = s.others; ends = ((λ p. cc), (λ p. cc)) }
+
+-- a call that is refused for want of memory leaves the lists as they were
+pub cut_short : (items : List Item) (turns count : ℕ) (list : List Receipt) (told : List Told) (e : Event) (left : List Event) (answer : Answer) (count_new : ℕ) (list_new : List Receipt) (told_new : List Told) →
+    count_new ≡ count + 1 → list_new ≡ list ++ receipts_in answer → told_new ≡ told ++ told_in (length list) e answer → count < turns → answer ≡ Refused NoMemory → SoFar items count list told (e ∷ left) →
+    IsCutShort items turns count_new list_new told_new
+cut_short items turns count list told e left answer count_new list_new told_new counted received others within refused s =
+    record { before = count; last = counted; within = omega arith; follows = rw (received, others, refused, append-nil list, append-nil told) (not_at_end items count list told e left s) }
 
 -- the next call, and then those that are left
 abbrev pub waiting : Option Event → List Event → List Event

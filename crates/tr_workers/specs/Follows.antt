@@ -9,7 +9,7 @@ use Rattle.tr_hub.specs.Answers.{IfEntered, is_kept}
 use Rattle.tr_workers.specs.declared.scripts.Item.{Item}
 use Rattle.tr_workers.specs.declared.ports.Told.{Told}
 use Rattle.tr_workers.specs.declared.working.Ended.{Ended}
-use Rattle.tr_workers.specs.declared.working.Ended.TheVariants.{AtEnd}
+use Rattle.tr_workers.specs.declared.working.Ended.TheVariants.{AtEnd, OutOfTurns}
 
 -- Scripts
 
@@ -84,3 +84,10 @@ pub record Follows (items : List Item) (count : ℕ) (list : List Receipt) (told
   pub receipts : receipts_of calls ≡ list
   pub others : told_of 0 calls ≡ told
   pub ends : (outcome ≡ AtEnd) ↔ (next_call items (answers_of calls) ≡ None)
+
+-- within the turns a call of the script was refused for want of memory: the calls before it follow the script, and it is in neither list
+pub record IsCutShort (items : List Item) (turns count : ℕ) (list : List Receipt) (told : List Told) : Type 0 where
+  pub before : ℕ
+  pub last : count ≡ before + 1
+  pub within : count ≤ turns
+  pub follows : Follows items before list told OutOfTurns

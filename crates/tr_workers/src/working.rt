@@ -1,8 +1,8 @@
-ghost use Rattle.std.specs.Prelude.{◌≡◌, ◌≤◌, ◌<◌, ◌^◌, [], length, IfOk, OnOk};
+ghost use Rattle.std.specs.Prelude.{◌≡◌, ◌≤◌, ◌<◌, ◌^◌, [], length, IfErr, IfOk, OnOk};
 ghost use Rattle.tr_hub.specs.Answers.{accepted_in};
 ghost use Rattle.tr_hub.specs.declared.answers.Answer.TheVariants.{Refused};
 ghost use Rattle.tr_model.specs.declared.replies.Refusal.TheVariants.{NoMemory};
-ghost use Rattle.tr_workers.specs.Follows.{Follows};
+ghost use Rattle.tr_workers.specs.Follows.{Follows, IsCutShort};
 ghost use Rattle.tr_workers.specs.Tallies.{accepted_of, counted, refused_of};
 ghost use Rattle.tr_workers.specs.Turns.{HasTurns};
 
@@ -38,6 +38,7 @@ impl Tally {
         requires few { accepted_in answer.now ≤ 1024 }
         ensures counted { OnOk result (self.new ≡ counted self.old answer.now) }
         ensures answered { OnOk result (answer.now ≡ Refused NoMemory → ⊥) }
+        ensures refused { IfErr result (λ _. answer.now ≡ Refused NoMemory) }
     {
         match answer {
             Answer::Entered(receipt) => {
@@ -61,7 +62,7 @@ impl Tally {
 /// Makes a script's calls in their order, one a turn, on the turns on which the gate lets the worker. On a port on which
 /// no call was made yet, and with at most 4,294,967,295 turns.
 ///
-/// A call that is refused for want of memory ends the work, and is its error.
+/// A call that is refused for want of memory ends the work, and is its error. The calls before it followed the script.
 pub fn work<P: Port, G: Gate>(
     worker: usize,
     port: &mut P,
@@ -77,6 +78,7 @@ pub fn work<P: Port, G: Gate>(
     ensures refused { IfOk result (λ t. t.refused ≡ refused_of (P.told port.new)) }
     ensures turns { IfOk result (λ t. HasTurns (G.may_say gate.now worker) (P.calls port.new) turns t.outcome) }
     ensures lasts { P.lasts port.old → P.lasts port.new }
+    ensures err { IfErr result (λ _. IsCutShort script.now.items turns (P.calls port.new) (P.receipts port.new) (P.told port.new)) }
 {
     let mut calls = Calls::of(script);
     let mut next = calls.next();
@@ -93,8 +95,9 @@ pub fn work<P: Port, G: Gate>(
         if !gate.may(worker, turn) {
             continue;
         }
-        tally.count(&port.call(event))?;
+        let answer = port.call(event);
         gate.done(worker, turn);
+        tally.count(&answer)?;
         next = calls.next();
     }
     match next {

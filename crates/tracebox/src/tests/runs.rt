@@ -60,7 +60,7 @@ fn expect_front(rt: &impl Machine, failing_put: usize) {
 
 #[test]
 fn a_writer_fails_at_each_put(rt: HostRuntime) {
-    for failing_put in 1..24 {
+    for failing_put in 1..25 {
         expect_front(&rt, failing_put);
     }
 }
@@ -131,9 +131,12 @@ fn expect_hostile(rt: &impl Machine, input: &[u8], told: &str) {
 
 #[test]
 fn an_input_is_hostile(rt: HostRuntime) -> Result<(), Fail> {
-    expect_hostile(&rt, b"{\"version\":\xff}", "tracebox: NotJson\n");
-    let brackets = "[".repeat(rt.alloc(), 200)?;
-    expect_hostile(&rt, brackets.as_bytes(), "tracebox: NotJson\n");
+    let name =
+        b"{\"version\":1,\"limit\":4,\"entries\":9,\"groups\":[{\"tgid\":10,\"name\":\"de\xffo\",\"threads\":[],\"actions\":[]}],\"steps\":[]}";
+    expect_hostile(&rt, name, "tracebox: NotJson\n");
+    let mut brackets = [b']'; 400];
+    brackets[..200].fill(b'[');
+    expect_hostile(&rt, &brackets, "tracebox: NotJson\n");
     let blanks = " ".repeat(rt.alloc(), 1048577)?;
     expect_hostile(&rt, blanks.as_bytes(), "tracebox: TooLarge\n");
     expect_hostile(&rt, &blanks.as_bytes()[1..], "tracebox: NotJson\n");

@@ -1,8 +1,9 @@
 use Rattle.std.proofs.Common.{refl, arith, length}
+use Rattle.std.proofs.lemmas.Result.{err_from_is_err_and}
 use Rattle.tr_workers.specs.Follows.{IsAnswered, made}
 use Rattle.tr_workers.proofs.Counts.{accepts_few, tallied_more}
 use Rattle.tr_workers.proofs.Said.{nothing_said, said_no, said_yes}
-use Rattle.tr_workers.proofs.Walks.{at_end, left_is_waiting, none_yet, not_at_end, one_more}
+use Rattle.tr_workers.proofs.Walks.{at_end, cut_short, left_is_waiting, none_yet, not_at_end, one_more}
 use Rattle.tr_workers.proofs.working.work.Goals as goal
 
 pub loop-turn-init : goal.loop-turn-init
@@ -35,9 +36,9 @@ loop-turn-preserved g c =
     let i = c.loop-turn.invariant in
     let P = g.P.Port in
     let old = c.loop-turn.port in
-    let e = c.call.ensures in
+    let e = c.call-answer.ensures in
     let event = c.in-Some.event in
-    let answer = c.call.result in
+    let answer = c.call-answer.result in
     let counts = c.in_ok-count.ensures in
     let left = left_is_waiting c.loop-turn.calls c.next-next-in-loop-turn.new.self c.next-next-in-loop-turn.result c.next-next-in-loop-turn.ensures in
     let answered : IsAnswered (made event answer) = (e.receipt, counts.answered) in
@@ -61,3 +62,12 @@ returns-in-None-clause-follows g c =
 pub returns-in-Some-next-clause-follows : goal.returns-in-Some-next-clause-follows
 returns-in-Some-next-clause-follows g c =
     rw c.ended-in-Some-next.ensures (not_at_end c.args.script.now.items (g.P.Port.calls c.loop-turn.port) (g.P.Port.receipts c.loop-turn.port) (g.P.Port.told c.loop-turn.port) c.in-Some-next.field-0 c.loop-turn.calls (rw c.in-Some-next.is at c.loop-turn.invariant.so_far))
+
+pub returns-in_err-count-clause-err : goal.returns-in_err-count-clause-err
+returns-in_err-count-clause-err g c =
+    let i = c.loop-turn.invariant in
+    let e = c.call-answer.ensures in
+    let refused = c.in_err-count.ensures.refused in
+    let p = err_from_is_err_and c.from_residual.result c.from_residual.ensures.1 in
+    rw p.1 (cut_short c.args.script.now.items c.args.turns (g.P.Port.calls c.loop-turn.port) (g.P.Port.receipts c.loop-turn.port) (g.P.Port.told c.loop-turn.port) c.in-Some.event c.loop-turn.calls c.call-answer.result
+    _ _ _ e.calls e.receipts e.told (omega arith) refused (rw c.in-Some.is at i.so_far))
