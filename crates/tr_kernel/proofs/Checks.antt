@@ -11,9 +11,9 @@ use Rattle.tr_model.specs.declared.replies.Reply.{Reply}
 use Rattle.tr_pending.specs.declared.instance.Instance.{Instance}
 use Rattle.tr_tracee.specs.declared.thread.Thread.{Thread}
 use Rattle.tr_model.specs.declared.events.Event.TheVariants.{CloneThread, StarterWait, Take, TakeAny, Wait}
-use Rattle.tr_model.specs.Causes.{at_limit, can_take_thread, cause_of, first, is_empty, nothing_where, quiet_of, script, thread_then, where_is}
+use Rattle.tr_model.specs.Causes.{at_limit, can_take_thread, cause_of, first, nothing_where, quiet_of, script, thread_then, where_is}
 use Rattle.tr_model.specs.Steps.{gives_id, gives_report, takes_by, takes_instance}
-use Rattle.tr_model.specs.Takes.{can_take}
+use Rattle.tr_model.specs.Takes.{can_take, is_empty}
 use Rattle.tr_model.proofs.Takable.{can_take_best}
 use Rattle.tr_model.specs.Laws.{IsCause}
 use Rattle.tr_model.specs.Preferred.{best_for, check, clone_choice, new_id, preferred, quiet_or, refused_or, reporting, take_any_choice, take_choice, taking, taking_by}

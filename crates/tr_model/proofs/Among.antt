@@ -4,7 +4,7 @@ use Rattle.std.specs.Prelude.{◌⊎◌, filter, find, flat_map, is_some}
 use Rattle.std.specs.List.{list_any}
 use Rattle.std.proofs.lemmas.Bool.{eq-eqb, true≢false, or_left, or_right}
 use Rattle.tr_tracee.specs.declared.thread.Thread.{Thread}
-use Rattle.tr_model.specs.Causes.{is_empty}
+use Rattle.tr_model.specs.Takes.{is_empty}
 use Rattle.tr_model.specs.Journals.{ids_of, occurs}
 
 abbrev pub Among : {A : Type 0} → A → List A → Type 0

@@ -15,15 +15,15 @@ use Rattle.tr_model.specs.declared.events.Event.TheVariants as event
 use Rattle.tr_model.specs.declared.replies.Refusal.{Refusal}
 use Rattle.tr_model.specs.declared.replies.Reply.TheVariants as reply
 use Rattle.tr_model.specs.declared.rows.Group.{Group}
-use Rattle.tr_model.specs.Causes.{can_take_thread, exists_where, first, is_empty, message_of, message_reply, nothing_where, siginfo, siginfo_of, thread_then}
+use Rattle.tr_model.specs.Causes.{can_take_thread, exists_where, first, is_in, message_of, message_reply, nothing_where, siginfo, siginfo_of, thread_then}
 use Rattle.tr_model.specs.Journals.{IsSorted}
 use Rattle.tr_model.specs.Laws.{PreferredIsAdmitted}
 use Rattle.tr_model.specs.Journals.{DistinctIds}
 use Rattle.tr_model.specs.Laws.{HasFreeId, NothingIsExact}
 use Rattle.tr_model.specs.Preferred.{best_for, clone_choice, new_id, reporting, take_any_choice, take_choice, taking, taking_by}
-use Rattle.tr_model.specs.Steps.{gives_id, gives_report, is_new, is_of, takes, takes_by, takes_instance}
+use Rattle.tr_model.specs.Steps.{gives_id, gives_report, is_new, takes, takes_by, takes_instance}
 use Rattle.tr_model.specs.Tables.{Table, has_traced, members, thread_of}
-use Rattle.tr_model.specs.Takes.{can_take, choices, is_none_left, numbered}
+use Rattle.tr_model.specs.Takes.{can_take, choices, is_empty, numbered}
 use Rattle.tr_model.specs.Waits.{asked_tracees, death_number, has_death, has_report, led_groups, note_number, note_wanted, ready, ready_death, ready_for_starter, ready_note, ready_of_group, ready_thread, report_number, shows_note, with_death, with_note, with_report}
 use Rattle.tr_model.proofs.Among.{Among, among_filter, among_flat, any_among, empty_right, filter_among, find_among, first_of_flat, found_by_id, some_found}
 use Rattle.tr_model.proofs.FreeIds.{new_id_is_new}
@@ -60,7 +60,7 @@ siginfo_is_something (Some t) e = go (held t.life) e
 taker_can : (T : Table) (t : Thread) (n : ℕ) → is_some (numbered n (choices T t)) ≡ true → can_take T t ≡ true
 taker_can T t n = go (choices T t)
   where
-    go : (is : List Instance) → is_some (numbered n is) ≡ true → not (is_none_left is) ≡ true
+    go : (is : List Instance) → is_some (numbered n is) ≡ true → not (is_empty is) ≡ true
     go [] e = absurd (true≢false (sym e))
     go (i ∷ is) e = refl
 
@@ -69,10 +69,10 @@ thread_can T None n e = absurd (true≢false (sym e))
 thread_can T (Some t) n e = taker_can T t n e
 
 -- and is a member of its group that can
-member_can : (T : Table) (g id n : ℕ) → is_of g (thread_of T id) ≡ true → takes T (thread_of T id) n ≡ true → list_any (can_take T) (members T g) ≡ true
+member_can : (T : Table) (g id n : ℕ) → is_in g (thread_of T id) ≡ true → takes T (thread_of T id) n ≡ true → list_any (can_take T) (members T g) ≡ true
 member_can T g id n = go (thread_of T id) refl
   where
-    go : (o : Option Thread) → thread_of T id ≡ o → is_of g o ≡ true → takes T o n ≡ true → list_any (can_take T) (members T g) ≡ true
+    go : (o : Option Thread) → thread_of T id ≡ o → is_in g o ≡ true → takes T o n ≡ true → list_any (can_take T) (members T g) ≡ true
     go None f h k = absurd (true≢false (sym h))
     go (Some t) f h k = any_among (can_take T) t (members T g) (among_filter (in_group g) t T.threads (find_among (λ x. x.id == id) t T.threads f).0 h) (taker_can T t n k)
 
@@ -207,14 +207,14 @@ first_taker T (t ∷ ts) e = go (can_take T t) refl (first_taker T ts) e
     go false h rest f = let k = rest f in record { thread = k.thread; among = inr k.among; can = k.can; chosen = rw h k.chosen }
 
 take_any_admitted : (T : Table) (g : ℕ) → DistinctIds T → IsSorted T.waiting → list_any (can_take T) (members T g) ≡ true
-    → (id : ℕ) × (n : ℕ) × (take_any_choice T (members T g) ≡ takes_by id n) × (is_of g (thread_of T id) ≡ true) × (takes T (thread_of T id) n ≡ true)
+    → (id : ℕ) × (n : ℕ) × (take_any_choice T (members T g) ≡ takes_by id n) × (is_in g (thread_of T id) ≡ true) × (takes T (thread_of T id) n ≡ true)
 take_any_admitted T g ids s e =
     let k = first_taker T (members T g) e in
     let t : Thread = k.thread in
     let m = filter_among (in_group g) t T.threads k.among in
     let found : thread_of T t.id ≡ Some t = found_by_id t T.threads ids m.0 in
     let h = taken_by_choice T t s k.can in
-    (t.id, h.instance.n, k.chosen ∙ ap (taking_by t.id) h.best, ap (is_of g) found ∙ m.1, ap (λ o. takes T o h.instance.n) found ∙ h.found)
+    (t.id, h.instance.n, k.chosen ∙ ap (taking_by t.id) h.best, ap (is_in g) found ∙ m.1, ap (λ o. takes T o h.instance.n) found ∙ h.found)
 
 reported_by : (r : ℕ) (ns : List ℕ) (o : Option Report) → report_number o ≡ r ∷ ns → has_report r o ≡ true
 reported_by r ns None e = cc

@@ -17,7 +17,7 @@ use Rattle.tr_model.specs.Journals.{IsSorted, taken_by}
 use Rattle.tr_model.specs.Moves.{instance_in}
 use Rattle.tr_model.specs.Preferred.{best_for, or_other}
 use Rattle.tr_model.specs.Tables.{Table, queue, same_target}
-use Rattle.tr_model.specs.Takes.{can_take, choices, choices_in, goes_before, is_none_left, numbered, taken_from, unblocked}
+use Rattle.tr_model.specs.Takes.{can_take, choices, choices_in, goes_before, is_empty, numbered, taken_from, unblocked}
 use Rattle.tr_model.proofs.Among.{Among, among_filter, among_left, among_right, filter_among}
 use Rattle.tr_model.proofs.Sorted.{InOrder, Past, in_order_filter, sorted_filter, sorted_instances}
 
@@ -91,7 +91,7 @@ record Taking (mask : SigSet) (own shared : List Instance) : Type 0 where
   among : Among instance (choices_in (unblocked mask own) ++ choices_in (unblocked mask shared))
 
 taking : (mask : SigSet) (own shared : List Instance) → InOrder own → InOrder shared
-    → not (is_none_left (choices_in (unblocked mask own) ++ choices_in (unblocked mask shared))) ≡ true → Taking mask own shared
+    → not (is_empty (choices_in (unblocked mask own) ++ choices_in (unblocked mask shared))) ≡ true → Taking mask own shared
 taking mask own shared o p c = go (best_of mask own) refl (best_of mask shared) refl
   where
     go : (b : Option Instance) → best_of mask own ≡ b → (d : Option Instance) → best_of mask shared ≡ d → Taking mask own shared
@@ -102,8 +102,8 @@ taking mask own shared o p c = go (best_of mask own) refl (best_of mask shared) 
       among = among_right i (choices_in (unblocked mask own)) _ (best_is_choice mask shared i p f);
     }
     go None e None f =
-        absurd (true≢false (sym c ∙ (ap (λ x. not (is_none_left (x ++ choices_in (unblocked mask shared)))) (no_choice_left mask own e)
-        ∙ ap (λ x. not (is_none_left x)) (no_choice_left mask shared f))))
+        absurd (true≢false (sym c ∙ (ap (λ x. not (is_empty (x ++ choices_in (unblocked mask shared)))) (no_choice_left mask own e)
+        ∙ ap (λ x. not (is_empty x)) (no_choice_left mask shared f))))
 
 numbered_there : (i : Instance) (is : List Instance) → Among i is → is_some (numbered i.n is) ≡ true
 numbered_there i [] m = absurd m
@@ -164,20 +164,20 @@ some_least x (y ∷ ys) = go (some_least y ys)
         by_sig (inl h) = record { first = x; among = inl refl; none = (itself, before_all x l.first (y ∷ ys) (λ j a b. (omega (arith, h, a), λ q. omega (arith, h, a, q))) l.none) }
         by_sig (inr h) = by_rest h (cases_lt l.first.sig x.sig)
 
-among_some : (i : Instance) (is : List Instance) → Among i is → is_none_left is ≡ false
+among_some : (i : Instance) (is : List Instance) → Among i is → is_empty is ≡ false
 among_some i [] m = absurd m
 among_some i (x ∷ is) m = refl
 
-left_where_best : (mask : SigSet) (is : List Instance) → is_none_left (choices_in (unblocked mask is)) ≡ not (is_some (best_of mask is))
+left_where_best : (mask : SigSet) (is : List Instance) → is_empty (choices_in (unblocked mask is)) ≡ not (is_some (best_of mask is))
 left_where_best mask is = go (unblocked mask is) (best_is_least mask is)
   where
-    go : (xs : List Instance) → best_of mask is ≡ least xs → is_none_left (choices_in xs) ≡ not (is_some (best_of mask is))
+    go : (xs : List Instance) → best_of mask is ≡ least xs → is_empty (choices_in xs) ≡ not (is_some (best_of mask is))
     go [] e = rw e refl
     go (x ∷ xs) e =
         let l = some_least x xs in
         rw e (among_some l.first (choices_in (x ∷ xs)) (among_filter (λ j. list_all (λ k. not (goes_before k j)) (x ∷ xs)) l.first (x ∷ xs) l.among (all_stay l.first (x ∷ xs) l.none)))
 
-none_left_append : (xs ys : List Instance) → is_none_left (xs ++ ys) ≡ (is_none_left xs && is_none_left ys)
+none_left_append : (xs ys : List Instance) → is_empty (xs ++ ys) ≡ (is_empty xs && is_empty ys)
 none_left_append [] ys = refl
 none_left_append (x ∷ xs) ys = refl
 
@@ -194,9 +194,9 @@ can_take_best T t = go (is_ready_to_take t) refl
     go true e =
         let own = queue T (target.Thread t.id) in
         let shared = queue T (target.Group t.group) in
-        let h : not (is_none_left (choices_in (unblocked t.mask own) ++ choices_in (unblocked t.mask shared))) ≡ is_some (or_other (best_of t.mask own) (best_of t.mask shared)) =
+        let h : not (is_empty (choices_in (unblocked t.mask own) ++ choices_in (unblocked t.mask shared))) ≡ is_some (or_other (best_of t.mask own) (best_of t.mask shared)) =
         ap not (none_left_append (choices_in (unblocked t.mask own)) (choices_in (unblocked t.mask shared)))
-        ∙ (ap (λ b. not (b && is_none_left (choices_in (unblocked t.mask shared)))) (left_where_best t.mask own)
+        ∙ (ap (λ b. not (b && is_empty (choices_in (unblocked t.mask shared)))) (left_where_best t.mask own)
         ∙ (ap (λ b. not (not (is_some (best_of t.mask own)) && b)) (left_where_best t.mask shared)
         ∙ either_some (best_of t.mask own) (best_of t.mask shared))) in
         rw e h

@@ -18,7 +18,7 @@ use Rattle.tr_model.specs.declared.replies.Reply.{Reply}
 use Rattle.tr_model.specs.declared.replies.Reply.TheVariants as reply
 use Rattle.tr_model.specs.Requests.{tracees}
 use Rattle.tr_model.specs.Tables.{Table, group_of, is_dying, members, others_dead, thread_of}
-use Rattle.tr_model.specs.Takes.{can_take}
+use Rattle.tr_model.specs.Takes.{can_take, is_empty}
 use Rattle.tr_model.specs.Waits.{led_groups, ready, ready_for_starter}
 
 -- The first cause that holds
@@ -73,10 +73,6 @@ abbrev pub no_siginfo : Life → Option Refusal
 no_siginfo (life.InStop (stop.Signal i came)) = None
 no_siginfo (life.InStop (stop.Group s)) = Some Inval
 no_siginfo _ = Some Unmodelled
-
-abbrev pub is_empty : {A : Type 0} → List A → Bool
-is_empty [] = true
-is_empty (x ∷ xs) = false
 
 -- The causes of each event, in their order
 

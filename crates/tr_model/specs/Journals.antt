@@ -5,6 +5,7 @@ use Rattle.tr_tracee.specs.declared.life.Life.TheVariants as life
 use Rattle.tr_tracee.specs.declared.thread.Thread.{Thread}
 use Rattle.tr_tracee.specs.Lives.{held}
 use Rattle.tr_group.specs.declared.stops.GroupStop.TheVariants.{No}
+use Rattle.tr_group.specs.Members.{number_held}
 use Rattle.tr_model.specs.declared.events.Choice.{Choice}
 use Rattle.tr_model.specs.declared.events.Entry.{Entry}
 use Rattle.tr_model.specs.declared.events.Event.{Event}
@@ -107,14 +108,10 @@ abbrev pub waiting_numbers : List Waiting → List ℕ
 waiting_numbers [] = []
 waiting_numbers (q ∷ qs) = q.instance.n ∷ waiting_numbers qs
 
-abbrev pub held_number : Option Instance → List ℕ
-held_number None = []
-held_number (Some i) = i.n ∷ []
-
 -- those that a signal-delivery-stop holds
 abbrev pub held_numbers : List Thread → List ℕ
 held_numbers [] = []
-held_numbers (t ∷ ts) = held_number (held t.life) ++ held_numbers ts
+held_numbers (t ∷ ts) = number_held (held t.life) ++ held_numbers ts
 
 abbrev pub numbers_of : List Ending → List ℕ
 numbers_of [] = []

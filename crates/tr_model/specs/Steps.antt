@@ -18,7 +18,7 @@ use Rattle.tr_model.specs.declared.replies.Reply.{Reply}
 use Rattle.tr_model.specs.declared.replies.Reply.TheVariants as reply
 use Rattle.tr_model.specs.declared.rows.Group.{Group}
 use Rattle.tr_model.specs.declared.rows.Target.TheVariants as target
-use Rattle.tr_model.specs.Causes.{cause_of, quiet_of}
+use Rattle.tr_model.specs.Causes.{cause_of, is_in, quiet_of}
 use Rattle.tr_model.specs.Ends
 use Rattle.tr_model.specs.Execs
 use Rattle.tr_model.specs.GroupStops.{settle}
@@ -54,10 +54,6 @@ abbrev pub takes : Table → Option Thread → ℕ → Bool
 takes T None n = false
 takes T (Some t) n = is_some (numbered n (choices T t))
 
-abbrev pub is_of : ℕ → Option Thread → Bool
-is_of g None = false
-is_of g (Some t) = t.group == g
-
 -- an id from 2 to 4,194,303 that is no thread's and no group's
 abbrev pub is_new : Table → ℕ → Bool
 is_new T id = nat_le 2 id && (nat_le id 4194303 && (not (is_some (thread_of T id)) && not (is_some (group_of T id))))
@@ -65,7 +61,7 @@ is_new T id = nat_le 2 id && (nat_le id 4194303 && (not (is_some (thread_of T id
 -- the choices that an event may have
 abbrev pub Admits : Table → ℕ → Event → Choice → Type 0
 Admits T a (event.Take id) c = (n : ℕ) × (c ≡ takes_instance n) × IsTrue (takes T (thread_of T id) n)
-Admits T a (event.TakeAny g) c = (id : ℕ) × (n : ℕ) × (c ≡ takes_by id n) × IsTrue (is_of g (thread_of T id)) × IsTrue (takes T (thread_of T id) n)
+Admits T a (event.TakeAny g) c = (id : ℕ) × (n : ℕ) × (c ≡ takes_by id n) × IsTrue (is_in g (thread_of T id)) × IsTrue (takes T (thread_of T id) n)
 Admits T a (event.Wait which) c = (r : ℕ) × (c ≡ gives_report r) × IsTrue (is_some (ready_thread T a which r))
 Admits T a (event.StarterWait which flags) c = (r : ℕ) × (c ≡ gives_report r) × IsTrue (is_some (ready_death T which r) || is_some (ready_note T which flags r))
 Admits T a (event.CloneThread id) c = (new : ℕ) × (c ≡ gives_id new) × IsTrue (is_new T new)

@@ -49,12 +49,12 @@ choices_from T t q = if is_ready_to_take t then choices_in (unblocked t.mask (qu
 abbrev pub choices : Table → Thread → List Instance
 choices T t = choices_from T t (target.Thread t.id) ++ choices_from T t (target.Group t.group)
 
-abbrev pub is_none_left : List Instance → Bool
-is_none_left [] = true
-is_none_left (i ∷ is) = false
+abbrev pub is_empty : {A : Type 0} → List A → Bool
+is_empty [] = true
+is_empty (x ∷ xs) = false
 
 abbrev pub can_take : Table → Thread → Bool
-can_take T t = not (is_none_left (choices T t))
+can_take T t = not (is_empty (choices T t))
 
 abbrev pub numbered : ℕ → List Instance → Option Instance
 numbered n [] = None

@@ -8,7 +8,8 @@ use Rattle.std.specs.List.{list_any}
 use Rattle.tr_model.specs.declared.checked.Checked.TheVariants.{Due, Quiet}
 use Rattle.tr_model.specs.declared.events.Event.TheVariants.{TracerExit}
 use Rattle.tr_model.specs.declared.replies.Reply.TheVariants.{Nothing}
-use Rattle.tr_model.specs.Causes.{is_empty, nothing_where}
+use Rattle.tr_model.specs.Causes.{nothing_where}
+use Rattle.tr_model.specs.Takes.{is_empty}
 use Rattle.tr_model.specs.Preferred.{check, quiet_or}
 use Rattle.tr_model.specs.Requests.{tracees}
 use Rattle.tr_model.specs.Steps.{no_choice}
