@@ -85,7 +85,7 @@ pub record Follows (items : List Item) (count : ℕ) (list : List Receipt) (told
   pub others : told_of 0 calls ≡ told
   pub ends : (outcome ≡ AtEnd) ↔ (next_call items (answers_of calls) ≡ None)
 
--- within the turns a call of the script was refused for want of memory: the calls before it follow the script, and it is in neither list
+-- within the turns a call more was made than those that follow the script, of which one was left; and it is in neither list
 pub record IsCutShort (items : List Item) (turns count : ℕ) (list : List Receipt) (told : List Told) : Type 0 where
   pub before : ℕ
   pub last : count ≡ before + 1

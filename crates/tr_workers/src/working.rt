@@ -62,7 +62,7 @@ impl Tally {
 /// Makes a script's calls in their order, one a turn, on the turns on which the gate lets the worker. On a port on which
 /// no call was made yet, and with at most 4,294,967,295 turns.
 ///
-/// A call that is refused for want of memory ends the work, and is its error. The calls before it followed the script.
+/// A call that is refused for want of memory ends the work, and is its error. The calls before it follow the script.
 pub fn work<P: Port, G: Gate>(
     worker: usize,
     port: &mut P,
