@@ -1,5 +1,5 @@
 -- One more entry in a history.
-use Rattle.std.proofs.Common.{◌≡◌, ℕ, ◌+◌, ◌-◌, ◌≤◌, List, [], ◌∷◌, ◌++◌, length, replicate, Ok, Some, None, Option, refl, sym, ap, ap₂, ◌∙◌, subst, arith, append_assoc, ◌⊎◌, inl, inr}
+use Rattle.std.proofs.Common.{◌≡◌, ℕ, ◌+◌, ◌-◌, ◌≤◌, List, [], ◌∷◌, ◌++◌, length, replicate, Ok, Some, None, Option, refl, sym, ap, ap₂, ◌∙◌, subst, arith, append-nil, append_assoc, ◌⊎◌, inl, inr}
 use Rattle.std.proofs.lemmas.Bool.{cases_eq, leb-true}
 use Rattle.std.specs.Prelude.{IsTrue, IfSome, slice_get, nat_le, Bool, true, false, ◌&&◌, if◌then◌else◌}
 use Rattle.tr_model.specs.declared.checked.Checked.TheVariants.{Due}
@@ -13,7 +13,7 @@ use Rattle.tr_model.specs.declared.replies.Reply.{Reply}
 use Rattle.tr_model.specs.Laws.{OneFate}
 use Rattle.tr_model.proofs.Reports.{consumed_once}
 use Rattle.tr_model.proofs.Tally.{fates_agree}
-use Rattle.tr_model.specs.Journals.{HasFate, consumed_by, fate_of, how_many, or_pending, totals, totals, Replay, ended_as, ended_by, held_numbers, numbers_of, occurs, waiting_numbers}
+use Rattle.tr_model.specs.Journals.{HasFate, consumed_by, fate_of, how_many, or_pending, totals, Replay, ended_as, ended_by, held_numbers, numbers_of, occurs, waiting_numbers}
 use Rattle.tr_model.specs.Preferred.{check, preferred}
 use Rattle.tr_model.specs.Steps.{Admits, Step, after, work_of}
 use Rattle.tr_model.specs.Tables.{Table}
@@ -104,11 +104,7 @@ accepts_few k x r U h s =
 -- The fates
 
 ended_push : (T U : Table) (es : List Entry) (rs : List Reply) (x : Entry) → Replay T es rs U → ended_by T (es ++ x ∷ []) ≡ ended_by T es ++ (work_of U x).ended
-ended_push T U [] [] x h = subst (λ (M : Table). (work_of T x).ended ++ [] ≡ (work_of M x).ended) (sym h) (append_none (work_of T x).ended)
-  where
-    append_none : (ys : List Ending) → ys ++ [] ≡ ys
-    append_none [] = refl
-    append_none (y ∷ ys) = ap (λ zs. y ∷ zs) (append_none ys)
+ended_push T U [] [] x h = subst (λ (M : Table). (work_of T x).ended ++ [] ≡ (work_of M x).ended) (sym h) (append-nil (work_of T x).ended)
 ended_push T U [] (r ∷ rs) x h = absurd h
 ended_push T U (e ∷ es) [] x h = absurd h
 ended_push T U (e ∷ es) (r ∷ rs) x h =

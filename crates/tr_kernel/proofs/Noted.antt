@@ -1,6 +1,7 @@
 -- The fates that a kernel writes down are those of its journal.
-use Rattle.std.proofs.Common.{◌≡◌, ℕ, zero, suc, ◌+◌, ◌-◌, ◌≤◌, ◌<◌, List, [], ◌∷◌, ◌++◌, length, length-append, filter, replicate, Bool, true, false, ◌&&◌, ◌==◌, if◌then◌else◌, Some, None, nat_le, slice_get, get_or, set, refl, sym, ap, ap₂, ◌∙◌, arith, append_assoc}
+use Rattle.std.proofs.Common.{◌≡◌, ℕ, zero, suc, ◌+◌, ◌-◌, ◌≤◌, ◌<◌, List, [], ◌∷◌, ◌++◌, length, length-append, filter, replicate, Bool, true, false, ◌&&◌, ◌==◌, if◌then◌else◌, Some, None, nat_le, slice_get, get_or, set, refl, sym, ap, ap₂, ◌∙◌, arith, append-nil, append_assoc}
 use Rattle.std.proofs.lemmas.Bool.{le-leb, leb-true, leb-false, eq-eqb, ne_eqb, and_from}
+use Rattle.std.proofs.lemmas.List.Elements.{filter-append}
 use Rattle.tr_model.specs.declared.events.Entry.{Entry}
 use Rattle.tr_model.specs.declared.fates.Ending.{Ending}
 use Rattle.tr_model.specs.declared.fates.Fate.{Fate}
@@ -10,10 +11,6 @@ use Rattle.tr_model.specs.Tables.{Table}
 use Rattle.tr_model.proofs.Kept.{is_pending}
 use Rattle.tr_model.proofs.Live.{AllLive}
 use Rattle.tr_kernel.specs.Fates.{all_noted, count_of, fates_from, fates_to, first_of, noted}
-
-append_nil : {X : Type 0} (xs : List X) → xs ++ [] ≡ xs
-append_nil [] = refl
-append_nil (x ∷ xs) = ap (λ ys. x ∷ ys) (append_nil xs)
 
 -- One ending more
 
@@ -47,7 +44,7 @@ live_then [] x l h = (h, tt)
 live_then (e ∷ es) x l h = (l.0, live_then es x l.1 h)
 
 pub all_noted_is : (E X : List Ending) (k : ℕ) → AllLive E → AllLive X → all_noted X (fates_to E k) ≡ fates_to (E ++ X) k
-all_noted_is E [] k l m = ap (λ es. fates_to es k) (sym (append_nil E))
+all_noted_is E [] k l m = ap (λ es. fates_to es k) (sym (append-nil E))
 all_noted_is E (x ∷ X) k l m =
     ap (all_noted X) (noted_is E x 1 k l)
     ∙ (all_noted_is (E ++ x ∷ []) X k (live_then E x l m.0) m.1 ∙ ap (λ es. fates_to es k) (append_assoc E (x ∷ []) X))
@@ -165,16 +162,8 @@ fate_kept T U es n h = go (nat_le n U.accepted) refl
 
 -- How many
 
-filter_append : (f : Fate) (xs ys : List Fate) → filter (same_fate f) (xs ++ ys) ≡ filter (same_fate f) xs ++ filter (same_fate f) ys
-filter_append f [] ys = refl
-filter_append f (x ∷ xs) ys = go (same_fate f x) (filter_append f xs ys)
-  where
-    go : (b : Bool) → filter (same_fate f) (xs ++ ys) ≡ filter (same_fate f) xs ++ filter (same_fate f) ys → (if b then x ∷ filter (same_fate f) (xs ++ ys) else filter (same_fate f) (xs ++ ys)) ≡ (if b then x ∷ filter (same_fate f) xs else filter (same_fate f) xs) ++ filter (same_fate f) ys
-    go true h = ap (λ zs. x ∷ zs) h
-    go false h = h
-
 count_append : (f : Fate) (xs ys : List Fate) → count_of f (xs ++ ys) ≡ count_of f xs + count_of f ys
-count_append f xs ys = ap length (filter_append f xs ys) ∙ length-append (filter (same_fate f) xs) (filter (same_fate f) ys)
+count_append f xs ys = ap length (filter-append (same_fate f) xs ys) ∙ length-append (filter (same_fate f) xs) (filter (same_fate f) ys)
 
 fates_snoc : (E : List Ending) (n k : ℕ) → fates_from E n (suc k) ≡ fates_from E n k ++ or_pending (ended_as E (n + k)) ∷ []
 fates_snoc E n zero = ap (λ m. or_pending (ended_as E m) ∷ []) (omega arith)
@@ -198,8 +187,3 @@ count_is T U es f (suc k) h =
 
     one : count_of f (or_pending (ended_as (ended_by T es) (suc k)) ∷ []) ≡ counts f (fate_of T es U (suc k))
     one = go (nat_le 1 (suc k) && nat_le (suc k) U.accepted) (and_from _ _ (le-leb 1 (suc k) (omega arith)) (le-leb (suc k) U.accepted h)) (or_pending (ended_as (ended_by T es) (suc k)))
-
--- one open fate more
-pub replicate_more : (k : ℕ) (f : Fate) → replicate k f ++ f ∷ [] ≡ replicate (k + 1) f
-replicate_more zero f = refl
-replicate_more (suc k) f = let e : suc (k + 1) ≡ suc k + 1 = omega arith in ap (λ fs. f ∷ fs) (replicate_more k f) ∙ ap (λ n. replicate n f) e

@@ -8,7 +8,6 @@ use tr_model::{Ending, Fate, Totals};
 // The fates of accepted numbers: number n at place n - 1.
 
 /// Appends this many accepted numbers, whose fate is open.
-#[tactic(auto, using(crate::proofs::Noted::replicate_more))]
 pub(crate) fn accept(fates: &mut Vec<Fate>, more: usize)
     requires { vec_len fates.old + more ≤ vec_capacity fates.old }
     ensures { fates.new.items ≡ fates.old.items ++ replicate more Pending }
