@@ -3,7 +3,8 @@ use Rattle.std.proofs.Common.{◌≡◌, ℕ, zero, suc, ◌+◌, ◌<◌, List,
 use Rattle.std.proofs.lemmas.Bool.{eq-eqb, eqb-true, eqb-false}
 use Rattle.tr_model.specs.Journals.{occurs}
 use Rattle.tr_kernel.specs.declared.notes.Passed.{Passed}
-use Rattle.tr_kernel.specs.Notes.{all_bumped, bumped, times}
+use Rattle.tr_kernel.specs.Notes.{times}
+use Rattle.tr_kernel.specs.Private.{all_bumped, bumped}
 
 abbrev more : Passed → Passed
 more p = record { id = p.id; times = p.times + 1 }

@@ -26,11 +26,12 @@ use Rattle.tr_model.proofs.Runs.{replay_push}
 use Rattle.tr_model.proofs.Standing.{ids_are_distinct}
 use Rattle.tr_table.specs.declared.starts.Start.{Start}
 use Rattle.tr_table.specs.Starts.{is_good, table_of}
-use Rattle.tr_kernel.specs.Fates.{all_noted, count_of, fates_after, fates_to, tally}
+use Rattle.tr_kernel.specs.Fates.{fates_to}
+use Rattle.tr_kernel.specs.Private.{count_of, endings_noted, fates_after, tally}
 use Rattle.tr_kernel.specs.States.{AcceptsFew, IsEntered, IsHistory, State}
 use Rattle.tr_kernel.proofs.Begun.{is_start}
 use Rattle.tr_kernel.proofs.Checks.{dues}
-use Rattle.tr_kernel.proofs.Noted.{all_noted_is, count_is, fate_kept, grown, length_fates, not_ended}
+use Rattle.tr_kernel.proofs.Noted.{endings_noted_is, count_is, fate_kept, grown, length_fates, not_ended}
 
 -- What every kernel has
 
@@ -139,8 +140,8 @@ fates_go_on k x r h s =
     let more : k.fates ++ replicate (W.table.accepted - length k.fates) Pending ≡ fates_to E W.table.accepted =
     ap₂ (λ fs n. fs ++ replicate (W.table.accepted - n) Pending) h.fates (counted k h)
     ∙ (grown E 1 a (W.table.accepted - a) (none_above k h) ∙ ap (fates_to E) (omega (arith, b.grows))) in
-    ap (all_noted W.ended) more
-    ∙ (all_noted_is E W.ended W.table.accepted (ended_live T k.table k.journal k.replies h.replayed) (live_end E W.ended live) ∙ ap (λ es. fates_to es W.table.accepted) (sym pushed))
+    ap (endings_noted W.ended) more
+    ∙ (endings_noted_is E W.ended W.table.accepted (ended_live T k.table k.journal k.replies h.replayed) (live_end E W.ended live) ∙ ap (λ es. fates_to es W.table.accepted) (sym pushed))
 
 -- Histories
 

@@ -46,7 +46,7 @@ use Rattle.tr_model.specs.Tables.{Table}
 use Rattle.tr_model.specs.Takes
 use Rattle.tr_model.specs.Waits
 use Rattle.tr_model.proofs.Kept.{itself}
-use Rattle.tr_kernel.specs.Notes.{passed_by, passed_id}
+use Rattle.tr_kernel.specs.Private.{passed_by, passed_id}
 
 -- v comes of w by at most n deaths of groups, and no id passes on
 record Logs (n : ℕ) (w v : Work) : Type 0 where

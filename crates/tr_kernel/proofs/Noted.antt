@@ -10,7 +10,8 @@ use Rattle.tr_model.specs.Journals.{ended_as, ended_by, fate_of, how_many, count
 use Rattle.tr_model.specs.Tables.{Table}
 use Rattle.tr_model.proofs.Kept.{is_pending}
 use Rattle.tr_model.proofs.Live.{AllLive}
-use Rattle.tr_kernel.specs.Fates.{all_noted, count_of, fates_from, fates_to, first_of, noted}
+use Rattle.tr_kernel.specs.Fates.{fates_from, fates_to}
+use Rattle.tr_kernel.specs.Private.{count_of, ending_noted, endings_noted, first_of}
 
 -- One ending more
 
@@ -35,7 +36,7 @@ note_one (e ∷ es) x n l = go (e.number == n) (x.number == n) (note_one es x n 
     go true false h = refl
     go false c h = h
 
-noted_is : (E : List Ending) (x : Ending) (n k : ℕ) → AllLive E → noted n x (fates_from E n k) ≡ fates_from (E ++ x ∷ []) n k
+noted_is : (E : List Ending) (x : Ending) (n k : ℕ) → AllLive E → ending_noted n x (fates_from E n k) ≡ fates_from (E ++ x ∷ []) n k
 noted_is E x n zero l = refl
 noted_is E x n (suc k) l = ap₂ (λ f fs. f ∷ fs) (note_one E x n l) (noted_is E x (suc n) k l)
 
@@ -43,15 +44,15 @@ live_then : (E : List Ending) (x : Ending) → AllLive E → is_pending x.fate �
 live_then [] x l h = (h, tt)
 live_then (e ∷ es) x l h = (l.0, live_then es x l.1 h)
 
-pub all_noted_is : (E X : List Ending) (k : ℕ) → AllLive E → AllLive X → all_noted X (fates_to E k) ≡ fates_to (E ++ X) k
-all_noted_is E [] k l m = ap (λ es. fates_to es k) (sym (append-nil E))
-all_noted_is E (x ∷ X) k l m =
-    ap (all_noted X) (noted_is E x 1 k l)
-    ∙ (all_noted_is (E ++ x ∷ []) X k (live_then E x l m.0) m.1 ∙ ap (λ es. fates_to es k) (append_assoc E (x ∷ []) X))
+pub endings_noted_is : (E X : List Ending) (k : ℕ) → AllLive E → AllLive X → endings_noted X (fates_to E k) ≡ fates_to (E ++ X) k
+endings_noted_is E [] k l m = ap (λ es. fates_to es k) (sym (append-nil E))
+endings_noted_is E (x ∷ X) k l m =
+    ap (endings_noted X) (noted_is E x 1 k l)
+    ∙ (endings_noted_is (E ++ x ∷ []) X k (live_then E x l m.0) m.1 ∙ ap (λ es. fates_to es k) (append_assoc E (x ∷ []) X))
 
 -- One ending, by its place
 
-noted_before : (n : ℕ) (x : Ending) (fs : List Fate) → x.number < n → fs ≡ noted n x fs
+noted_before : (n : ℕ) (x : Ending) (fs : List Fate) → x.number < n → fs ≡ ending_noted n x fs
 noted_before n x [] h = refl
 noted_before n x (f ∷ fs) h = ap₂ (λ g gs. g ∷ gs) (go (x.number == n) (ne_eqb x.number n (λ e. omega arith))) (noted_before (suc n) x fs (omega arith))
   where
@@ -59,7 +60,7 @@ noted_before n x (f ∷ fs) h = ap₂ (λ g gs. g ∷ gs) (go (x.number == n) (n
     go true e = absurd cc
     go false e = refl
 
-pub noted_past : (n : ℕ) (x : Ending) (fs : List Fate) → n + length fs ≤ x.number → fs ≡ noted n x fs
+pub noted_past : (n : ℕ) (x : Ending) (fs : List Fate) → n + length fs ≤ x.number → fs ≡ ending_noted n x fs
 noted_past n x [] h = refl
 noted_past n x (f ∷ fs) h = ap₂ (λ g gs. g ∷ gs) (go (x.number == n) (ne_eqb x.number n (λ e. omega arith))) (noted_past (suc n) x fs (omega arith))
   where
@@ -81,7 +82,7 @@ closed_first Delivered g h = refl
 closed_first Suppressed g h = refl
 closed_first Flushed g h = refl
 
-pub noted_open : (n : ℕ) (x : Ending) (fs : List Fate) (i : ℕ) (d : Fate) → x.number ≡ n + i → i < length fs → same_fate Pending (get_or fs i d) ≡ true → set fs i x.fate ≡ noted n x fs
+pub noted_open : (n : ℕ) (x : Ending) (fs : List Fate) (i : ℕ) (d : Fate) → x.number ≡ n + i → i < length fs → same_fate Pending (get_or fs i d) ≡ true → set fs i x.fate ≡ ending_noted n x fs
 noted_open n x [] i d e h o = absurd (omega arith)
 noted_open n x (f ∷ fs) zero d e h o = ap₂ (λ g gs. g ∷ gs) (go (x.number == n) (eq-eqb x.number n (omega arith))) (noted_before (suc n) x fs (omega arith))
   where
@@ -94,7 +95,7 @@ noted_open n x (f ∷ fs) (suc i) d e h o = ap₂ (λ g gs. g ∷ gs) (go (x.num
     go true q = absurd cc
     go false q = refl
 
-pub noted_closed : (n : ℕ) (x : Ending) (fs : List Fate) (i : ℕ) (d : Fate) → x.number ≡ n + i → i < length fs → same_fate Pending (get_or fs i d) ≡ false → fs ≡ noted n x fs
+pub noted_closed : (n : ℕ) (x : Ending) (fs : List Fate) (i : ℕ) (d : Fate) → x.number ≡ n + i → i < length fs → same_fate Pending (get_or fs i d) ≡ false → fs ≡ ending_noted n x fs
 noted_closed n x [] i d e h o = absurd (omega arith)
 noted_closed n x (f ∷ fs) zero d e h o = ap₂ (λ g gs. g ∷ gs) (go (x.number == n) (eq-eqb x.number n (omega arith))) (noted_before (suc n) x fs (omega arith))
   where
@@ -107,7 +108,7 @@ noted_closed n x (f ∷ fs) (suc i) d e h o = ap₂ (λ g gs. g ∷ gs) (go (x.n
     go true q = absurd cc
     go false q = refl
 
-pub noted_none : (x : Ending) (fs : List Fate) → x.number ≡ 0 → fs ≡ noted 1 x fs
+pub noted_none : (x : Ending) (fs : List Fate) → x.number ≡ 0 → fs ≡ ending_noted 1 x fs
 noted_none x fs h = noted_before 1 x fs (omega arith)
 
 -- More numbers

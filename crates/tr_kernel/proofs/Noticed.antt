@@ -12,7 +12,7 @@ use Rattle.tr_kernel.specs.declared.notes.Note.{Note}
 use Rattle.tr_kernel.specs.Laws.{KillsAt}
 use Rattle.tr_kernel.specs.Notes.{dying_by, is_some_group, mark_of, note_of, notes_from, notes_of}
 use Rattle.tr_kernel.specs.Positions.{table_at}
-use Rattle.tr_kernel.specs.Restarts.{AreOrdered, deaths_in, deaths_to, killed_in, mark_at, mark_in}
+use Rattle.tr_kernel.specs.Private.{AreOrdered, deaths_in, deaths_to, killed_in, mark_at, mark_in}
 use Rattle.tr_kernel.proofs.Cuts.{some_there}
 
 note_there : (T : Table) (ids : List ℕ) (d : ℕ) (es : List Entry) (k : ℕ) (e : Entry) → slice_get es k ≡ Some e

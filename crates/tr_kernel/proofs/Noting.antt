@@ -31,7 +31,8 @@ use Rattle.tr_table.specs.Starts.{table_of}
 use Rattle.tr_kernel.specs.declared.notes.Mark.TheVariants.{Nothing, Take}
 use Rattle.tr_kernel.specs.declared.notes.Note.{Note}
 use Rattle.tr_kernel.specs.declared.notes.Passed.{Passed}
-use Rattle.tr_kernel.specs.Notes.{IsNoted, all_bumped, dying_by, is_some_group, mark_after, mark_before, mark_of, note_of, noted, notes_from, notes_of, passed_by, passed_id, passes, passes_in, take_mark, times}
+use Rattle.tr_kernel.specs.Notes.{IsNoted, dying_by, is_some_group, mark_of, note_of, notes_from, notes_of, passes, take_mark, times}
+use Rattle.tr_kernel.specs.Private.{all_bumped, mark_after, mark_before, noted, passed_by, passed_id, passes_in}
 use Rattle.tr_kernel.specs.States.{IsHistory, State}
 use Rattle.tr_kernel.proofs.Begun.{is_start}
 use Rattle.tr_kernel.proofs.Bumped.{times_all}

@@ -28,7 +28,7 @@ use Rattle.tr_kernel.specs.declared.notes.TakenFrom.{TakenFrom}
 use Rattle.tr_kernel.specs.Laws.{TakenInOrder, TakesAt, TwoTakes}
 use Rattle.tr_kernel.specs.Notes.{exec_mark, mark_of, notes_of, passes, shows_stop, stop_mark, take_mark}
 use Rattle.tr_kernel.specs.Positions.{between, table_at}
-use Rattle.tr_kernel.specs.Restarts.{SameQueue, mark_at}
+use Rattle.tr_kernel.specs.Private.{SameQueue, mark_at}
 use Rattle.tr_kernel.specs.States.{IsHistory, State}
 use Rattle.tr_kernel.proofs.Begun.{is_start}
 use Rattle.tr_kernel.proofs.Cuts.{cut, renamed_next, renamed_split, replay_between, table_take}

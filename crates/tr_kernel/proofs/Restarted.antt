@@ -27,7 +27,7 @@ use Rattle.tr_kernel.specs.declared.notes.TakenFrom.{TakenFrom}
 use Rattle.tr_kernel.specs.Laws.{RestartBetween, RestartsAt, StopsAt, TwoStops}
 use Rattle.tr_kernel.specs.Notes.{dying_by, exec_mark, is_stop_status, mark_of, notes_of, shows_stop, stop_mark, take_mark}
 use Rattle.tr_kernel.specs.Positions.{entry_at, table_at}
-use Rattle.tr_kernel.specs.Restarts.{IsRestartAt, deaths_to, is_exec_in, is_restart, mark_at, restarts_at, restarts_here}
+use Rattle.tr_kernel.specs.Private.{IsRestartAt, deaths_to, is_exec_in, is_restart, mark_at, restarts_at, restarts_here}
 use Rattle.tr_kernel.specs.States.{IsHistory, State}
 use Rattle.tr_kernel.proofs.Begun.{is_start}
 use Rattle.tr_kernel.proofs.Cuts.{cut, dying_there, get_drop, get_take, replay_between, some_there, table_drop, table_take}

@@ -2,9 +2,9 @@ ghost use Rattle.std.specs.Prelude.{◌≡◌, ◌∷◌, ◌++◌, ◌+◌, ◌
 ghost use Rattle.tr_model.specs.declared.checked.Checked.TheVariants.{Due};
 ghost use Rattle.tr_model.specs.Preferred.{check};
 ghost use Rattle.tr_model.specs.Steps.{after, work_of};
-ghost use Rattle.tr_kernel.specs.Fates.{fates_after};
 ghost use Rattle.tr_kernel.specs.Laws.{report_of};
-ghost use Rattle.tr_kernel.specs.Notes.{all_bumped, noted, passed_by, times};
+ghost use Rattle.tr_kernel.specs.Notes.{times};
+ghost use Rattle.tr_kernel.specs.Private.{all_bumped, fates_after, noted, passed_by};
 ghost use Rattle.tr_kernel.specs.States.{AcceptsFew};
 
 use crate::events::change;

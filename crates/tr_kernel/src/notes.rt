@@ -1,7 +1,7 @@
 ghost use Rattle.std.specs.Prelude.{◌≡◌, ◌≤◌, ◌<◌, ◌+◌, ◌++◌, ◌∷◌, ◌^◌, [], ℕ, false, length, not, option_copied, slice_get, vec_len, vec_capacity, ◌&&◌, OnOk};
 ghost use Rattle.tr_model.specs.Journals.{chosen};
-ghost use Rattle.tr_kernel.specs.Notes.{all_bumped, bumped, exec_mark, is_some_group, is_stop_status, mark_after, mark_before, passed_by, passed_id, passes_in, shows_stop, stop_mark, times, took_mark};
-ghost use Rattle.tr_kernel.specs.Restarts.{killed_in, mark_in};
+ghost use Rattle.tr_kernel.specs.Notes.{exec_mark, is_some_group, is_stop_status, shows_stop, stop_mark, times};
+ghost use Rattle.tr_kernel.specs.Private.{all_bumped, bumped, killed_in, mark_after, mark_before, mark_in, passed_by, passed_id, passes_in, took_mark};
 
 use crate::fates::{append, at_position};
 use std::alloc::{AllocError, Global};
