@@ -1,4 +1,5 @@
--- What each entry leaves in the notes beside the journal, from which the laws answer.
+-- What each entry leaves in the notes beside the journal, from which the laws answer: the kernel's invariant cites these,
+-- and no public contract.
 use Rattle.std.specs.Prelude.{◌≡◌, ℕ, ◌+◌, ◌==◌, List, [], ◌∷◌, ◌++◌, length, Bool, true, false, Option, Some, None, if◌then◌else◌}
 use Rattle.tr_wait.specs.declared.status.Status.{Status}
 use Rattle.tr_wait.specs.declared.status.Status.TheVariants as status

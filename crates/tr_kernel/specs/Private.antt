@@ -79,16 +79,6 @@ abbrev pub passed_by : Table → Event → List ℕ
 passed_by T (event.Finish id) = passed_id (thread_of T id)
 passed_by T _ = []
 
--- with the id once more
-abbrev pub bumped : ℕ → List Passed → List Passed
-bumped id [] = record { id = id; times = 1 } ∷ []
-bumped id (p ∷ ps) = if p.id == id then record { id = p.id; times = p.times + 1 } ∷ ps else p ∷ bumped id ps
-
--- with each of these once more
-abbrev pub all_bumped : List ℕ → List Passed → List Passed
-all_bumped [] ps = ps
-all_bumped (id ∷ ids) ps = all_bumped ids (bumped id ps)
-
 -- how often the id of the queue's thread has passed on
 abbrev pub passes_in : List Passed → Target → ℕ
 passes_in ps (target.Thread id) = times id ps
@@ -102,22 +92,18 @@ mark_before T a (event.Wait which) c = stop_mark (ready_thread T a which (number
 mark_before T a (event.Exec id) c = exec_mark (thread_of T id)
 mark_before T a _ c = Nothing
 
--- the mark of a take, by its reply
-abbrev pub took_mark : Mark → Target → List Passed → Reply → Mark
-took_mark m q ps (reply.Took id i did) = Take (record { number = i.n; signal = i.sig; queue = q; passed = passes_in ps q })
-took_mark m q ps _ = m
-
--- the mark after the step, by its reply and the queue that it took from
-abbrev pub mark_after : Mark → Reply → Option Target → List Passed → Mark
-mark_after m r None ps = m
-mark_after m r (Some q) ps = took_mark m q ps r
+-- its mark after the step, by the queue that it took from and its reply
+abbrev pub mark_after : Mark → Option Target → List Passed → Reply → Mark
+mark_after m None ps r = m
+mark_after m (Some q) ps (reply.Took id i did) = Take (record { number = i.n; signal = i.sig; queue = q; passed = passes_in ps q })
+mark_after m (Some q) ps _ = m
 
 -- the note, after so many deaths of groups
 abbrev pub noted : List Passed → ℕ → Table → Entry → Note
 noted ps deaths T e =
     let w = work_of T e in
     record {
-      mark = mark_after (mark_before T e.actor e.event e.choice) (after T e).reply (queue_of (taken T e)) ps;
+      mark = mark_after (mark_before T e.actor e.event e.choice) (queue_of (taken T e)) ps (after T e).reply;
       killed = is_some_group w.killed;
       deaths = deaths + length w.dying;
     }
