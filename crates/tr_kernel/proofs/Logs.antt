@@ -1,5 +1,5 @@
 -- What one entry writes into the log of its step: few deaths, and no id that passes on but at a finish.
-use Rattle.std.proofs.Common.{◌≡◌, ℕ, suc, ◌⊎◌, inl, inr, filter, cond, append-nil, ◌+◌, ◌≤◌, List, [], ◌∷◌, ◌++◌, length, true, false, Some, None, Option, refl, sym, ap, ◌∙◌, Bool, not, ◌&&◌, ◌==◌, if◌then◌else◌, map, arith, length-append, subst}
+use Rattle.std.proofs.Common.{◌≡◌, ℕ, ◌⊎◌, inl, inr, append-nil, ◌+◌, ◌≤◌, List, [], ◌∷◌, ◌++◌, length, true, false, Some, None, Option, refl, sym, ap, ◌∙◌, Bool, not, ◌&&◌, ◌==◌, if◌then◌else◌, map, arith, length-append, subst}
 use Rattle.tr_group.specs.declared.stops.Action.{Action}
 use Rattle.tr_pending.specs.declared.instance.Info.{Info}
 use Rattle.tr_pending.specs.declared.instance.Instance.{Instance}
@@ -45,6 +45,7 @@ use Rattle.tr_model.specs.Tables
 use Rattle.tr_model.specs.Tables.{Table}
 use Rattle.tr_model.specs.Takes
 use Rattle.tr_model.specs.Waits
+use Rattle.tr_model.proofs.Bounds.{count_to_kill, count_tracees}
 use Rattle.tr_model.proofs.Kept.{itself}
 use Rattle.tr_kernel.specs.Private.{passed_by, passed_id}
 
@@ -299,24 +300,6 @@ loses a id w = ats 1 id (Requests.lose_tracer a) w (λ t. branch 1 w (Threads.is
 
 exit_kills : (id : ℕ) (w : Work) → Logs 1 w (Moves.at id Requests.exit_kill w)
 exit_kills id w = ats 1 id Requests.exit_kill w (λ t. after_none 1 w (Moves.accept_as Delivered w) _ (accepts_as Delivered w) (kills t.group (Moves.accept_as Delivered w)))
-
-length_map : {A B : Type 0} (f : A → B) (xs : List A) → length (map f xs) ≡ length xs
-length_map f [] = refl
-length_map f (x ∷ xs) = ap suc (length_map f xs)
-
-length_filter : {A : Type 0} (p : A → Bool) (xs : List A) → length (filter p xs) ≤ length xs
-length_filter p [] = omega arith
-length_filter p (x ∷ xs) = go (p x) (length_filter p xs)
-  where
-    go : (b : Bool) → length (filter p xs) ≤ length xs → length (cond b (x ∷ filter p xs) (filter p xs)) ≤ suc (length xs)
-    go true h = omega (arith, h)
-    go false h = omega (arith, h)
-
-count_tracees : (T : Table) (a : ℕ) → length (Requests.ids (Requests.tracees T a)) ≤ length T.threads
-count_tracees T a = omega (arith, length_map (λ (t : Thread). t.id) (Requests.tracees T a), length_filter (Threads.is_tracee_of a) T.threads)
-
-count_to_kill : (T : Table) (a : ℕ) → length (Requests.ids (Requests.to_kill T a)) ≤ length T.threads
-count_to_kill T a = omega (arith, length_map (λ (t : Thread). t.id) (Requests.to_kill T a), length_filter (λ (t : Thread). (Threads.options_of t.trace).exitkill && not (Lives.is_dead t.life)) (Requests.tracees T a), length_filter (Threads.is_tracee_of a) T.threads)
 
 tracer_exits : (a : ℕ) (w : Work) → Logs (length w.table.threads + length w.table.threads) w (Requests.tracer_exit a w)
 tracer_exits a w =

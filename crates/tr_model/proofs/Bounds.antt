@@ -1,7 +1,9 @@
 -- How many signals an entry accepts, how many reports it raises, and how many threads it adds.
-use Rattle.std.proofs.Common.{◌≡◌, ℕ, suc, ◌+◌, ◌<◌, ◌≤◌, List, [], ◌∷◌, ◌++◌, length, true, false, Some, None, Option, refl, sym, subst, ap, Bool, not, ◌&&◌, ◌||◌, ◌==◌, if◌then◌else◌, map, filter, cond, arith, length-append, nat_le}
+use Rattle.std.proofs.Common.{◌≡◌, ℕ, suc, ◌+◌, ◌<◌, ◌≤◌, List, [], ◌∷◌, ◌++◌, length, true, false, Some, None, Option, refl, sym, subst, ap, Bool, not, ◌&&◌, ◌||◌, ◌==◌, if◌then◌else◌, map, filter, arith, length-append, nat_le}
 use Rattle.std.proofs.lemmas.Bool.{eq-eqb}
 use Rattle.std.proofs.lemmas.Bool.Decides.{nat_tests}
+use Rattle.std.proofs.lemmas.List.{length-map}
+use Rattle.std.proofs.lemmas.List.Sums.{count_by-le-length, length-filter}
 use Rattle.tr_pending.specs.declared.instance.Info.{Info}
 use Rattle.tr_pending.specs.declared.instance.Instance.{Instance}
 use Rattle.tr_wait.specs.Words.{stop_sig_of}
@@ -111,17 +113,8 @@ branch a r t w false x y p q = q
 
 -- Lists
 
-length-map : {A B : Type 0} (f : A → B) (xs : List A) → length (map f xs) ≡ length xs
-length-map f [] = refl
-length-map f (x ∷ xs) = ap suc (length-map f xs)
-
-length-filter : {A : Type 0} (p : A → Bool) (xs : List A) → length (filter p xs) ≤ length xs
-length-filter p [] = omega arith
-length-filter p (x ∷ xs) = go (p x) (length-filter p xs)
-  where
-    go : (b : Bool) → length (filter p xs) ≤ length xs → length (cond b (x ∷ filter p xs) (filter p xs)) ≤ suc (length xs)
-    go true h = omega (arith, h)
-    go false h = omega (arith, h)
+filter-le-length : {A : Type 0} (p : A → Bool) (xs : List A) → length (filter p xs) ≤ length xs
+filter-le-length p xs = omega (arith, length-filter p xs, count_by-le-length p xs)
 
 length-changed : (id : ℕ) (f : Thread → Thread) (ts : List Thread) → length (Moves.changed id f ts) ≡ length ts
 length-changed id f [] = refl
@@ -150,16 +143,16 @@ length-group_changed g f (x ∷ xs) = go (x.tgid == g) (length-group_changed g f
 -- The small moves
 
 alters : (f : Thread → Thread) (w : Work) → Bound 0 0 0 w (Moves.alter f w)
-alters f w = still w (Moves.alter f w) refl refl (omega (arith, length-map f w.table.threads)) (omega arith)
+alters f w = still w (Moves.alter f w) refl refl (omega (arith, length-map w.table.threads f)) (omega arith)
 
 becomes : (fate : Fate) (f : Thread → Thread) (w : Work) → Bound 0 0 0 w (Moves.become fate f w)
-becomes fate f w = still w (Moves.become fate f w) refl refl (omega (arith, length-map f w.table.threads)) (omega arith)
+becomes fate f w = still w (Moves.become fate f w) refl refl (omega (arith, length-map w.table.threads f)) (omega arith)
 
 changes : (fate : Fate) (f : Thread → Thread) (t : Thread) (w : Work) → Bound 0 0 0 w (Moves.changing fate f t w)
 changes fate f t w = still w (Moves.changing fate f t w) refl refl (omega (arith, length-changed t.id f w.table.threads)) (omega arith)
 
 regroups : (f : Group → Group) (w : Work) → Bound 0 0 0 w (Moves.regroup f w)
-regroups f w = still w (Moves.regroup f w) refl refl (omega arith) (omega (arith, length-map f w.table.groups))
+regroups f w = still w (Moves.regroup f w) refl refl (omega arith) (omega (arith, length-map w.table.groups f))
 
 raisings : (f : Thread → Thread) (t : Thread) (s : Status) (w : Work) → Bound 0 1 0 w (Moves.raising f t s w)
 raisings f t s w = record { accepted_grows = omega arith; accepts = omega arith; raised_grows = omega arith; raises = omega arith; threads = omega (arith, length-changed t.id f w.table.threads); groups = omega arith }
@@ -197,16 +190,16 @@ spawns : (parent id : ℕ) (mark : Bool) (w : Work) → Bound 0 0 1 w (Moves.spa
 spawns parent id mark w = ats 0 0 1 parent (Moves.spawned id mark) w (λ t. branch 0 0 1 w (Lives.is_free t.life) _ w (adds _ w) (none 0 0 1 w))
 
 removes : (p : Thread → Bool) (w : Work) → Bound 0 0 0 w (Moves.remove_dead p w)
-removes p w = still w (Moves.remove_dead p w) refl refl (length-filter _ w.table.threads) (omega arith)
+removes p w = still w (Moves.remove_dead p w) refl refl (filter-le-length _ w.table.threads) (omega arith)
 
 places : (t : Thread) (w : Work) → Bound 0 0 0 w (Moves.placed t w)
-places t w = still w (Moves.placed t w) refl refl (omega (arith, length-map (Moves.in_place t) (Moves.dropped t.id w.table.threads), length-dropped t.id w.table.threads)) (omega arith)
+places t w = still w (Moves.placed t w) refl refl (omega (arith, length-map (Moves.dropped t.id w.table.threads) (Moves.in_place t), length-dropped t.id w.table.threads)) (omega arith)
 
 take_places : (id : ℕ) (w : Work) → Bound 0 0 0 w (Moves.take_place id w)
 take_places id w = ats 0 0 0 id Moves.taking_place w (λ t. branch 0 0 0 w _ (Moves.placed t w) w (places t w) (none 0 0 0 w))
 
 drops : (g : ℕ) (w : Work) → Bound 0 0 0 w (Moves.drop_empty g w)
-drops g w = still w (Moves.drop_empty g w) refl refl (omega arith) (length-filter (Moves.stays g w) w.table.groups)
+drops g w = still w (Moves.drop_empty g w) refl refl (omega arith) (filter-le-length (Moves.stays g w) w.table.groups)
 
 enqueues : (s : ℕ) (i : Info) (q : Target) (w : Work) → Bound 1 0 0 w (Moves.enqueue s i q w)
 enqueues s i q w = record { accepted_grows = omega arith; accepts = omega arith; raised_grows = omega arith; raises = omega arith; threads = omega arith; groups = omega arith }
@@ -246,7 +239,7 @@ each_accepts move h [] w = none 0 0 0 w
 each_accepts move h (x ∷ xs) w = less _ _ _ _ _ _ w _ (omega arith) (omega arith) (omega arith) (chain 1 0 0 (length xs) 0 0 w (move x w) _ (h x w) (each_accepts move h xs (move x w)))
 
 settles : (w : Work) → Bound 0 (length w.table.groups) 0 w (GroupStops.settle w)
-settles w = less _ _ _ _ _ _ w _ (omega arith) (omega (arith, length-map (λ (x : Group). x.tgid) w.table.groups)) (omega arith) (each_raises GroupStops.settle_group settles_group (map (λ x. x.tgid) w.table.groups) w)
+settles w = less _ _ _ _ _ _ w _ (omega arith) (omega (arith, length-map w.table.groups (λ (x : Group). x.tgid))) (omega arith) (each_raises GroupStops.settle_group settles_group (map (λ x. x.tgid) w.table.groups) w)
 
 deaths : (g : ℕ) (e : End) (kill : Bool) (w : Work) → Bound 0 0 0 w (Deaths.begin_death g e kill w)
 deaths g e kill w =
@@ -399,11 +392,13 @@ loses a id w = ats 0 1 0 id (Requests.lose_tracer a) w (λ t. branch 0 1 0 w (Th
 exit_kills : (id : ℕ) (w : Work) → Bound 1 0 0 w (Moves.at id Requests.exit_kill w)
 exit_kills id w = ats 1 0 0 id Requests.exit_kill w (λ t. then_still 1 0 0 w (Moves.accept_as Delivered w) _ (accepts_as Delivered w) (kills t.group (Moves.accept_as Delivered w)))
 
-count_tracees : (T : Table) (a : ℕ) → length (Requests.ids (Requests.tracees T a)) ≤ length T.threads
-count_tracees T a = omega (arith, length-map (λ (t : Thread). t.id) (Requests.tracees T a), length-filter (Threads.is_tracee_of a) T.threads)
+-- a tracer has at most as many tracees as there are threads
+pub count_tracees : (T : Table) (a : ℕ) → length (Requests.ids (Requests.tracees T a)) ≤ length T.threads
+count_tracees T a = omega (arith, length-map (Requests.tracees T a) (λ (t : Thread). t.id), filter-le-length (Threads.is_tracee_of a) T.threads)
 
-count_to_kill : (T : Table) (a : ℕ) → length (Requests.ids (Requests.to_kill T a)) ≤ length T.threads
-count_to_kill T a = omega (arith, length-map (λ (t : Thread). t.id) (Requests.to_kill T a), length-filter (λ (t : Thread). (Threads.options_of t.trace).exitkill && not (Lives.is_dead t.life)) (Requests.tracees T a), length-filter (Threads.is_tracee_of a) T.threads)
+-- and no more to kill when it ends
+pub count_to_kill : (T : Table) (a : ℕ) → length (Requests.ids (Requests.to_kill T a)) ≤ length T.threads
+count_to_kill T a = omega (arith, length-map (Requests.to_kill T a) (λ (t : Thread). t.id), filter-le-length (λ (t : Thread). (Threads.options_of t.trace).exitkill && not (Lives.is_dead t.life)) (Requests.tracees T a), filter-le-length (Threads.is_tracee_of a) T.threads)
 
 tracer_exits : (a : ℕ) (w : Work) → Bound (length w.table.threads) (length w.table.threads) 0 w (Requests.tracer_exit a w)
 tracer_exits a w =
