@@ -69,18 +69,10 @@ noted_past n x (f ∷ fs) h = ap₂ (λ g gs. g ∷ gs) (go (x.number == n) (ne_
     go false e = refl
 
 opened_first : (f g : Fate) → same_fate Pending f ≡ true → g ≡ first_of f g
-opened_first Pending g h = refl
-opened_first Merged g h = absurd cc
-opened_first Delivered g h = absurd cc
-opened_first Suppressed g h = absurd cc
-opened_first Flushed g h = absurd cc
+opened_first f g h = rw h refl
 
 closed_first : (f g : Fate) → same_fate Pending f ≡ false → f ≡ first_of f g
-closed_first Pending g h = absurd cc
-closed_first Merged g h = refl
-closed_first Delivered g h = refl
-closed_first Suppressed g h = refl
-closed_first Flushed g h = refl
+closed_first f g h = rw h refl
 
 pub noted_open : (n : ℕ) (x : Ending) (fs : List Fate) (i : ℕ) (d : Fate) → x.number ≡ n + i → i < length fs → same_fate Pending (get_or fs i d) ≡ true → set fs i x.fate ≡ ending_noted n x fs
 noted_open n x [] i d e h o = absurd (omega arith)

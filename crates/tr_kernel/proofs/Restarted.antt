@@ -27,7 +27,7 @@ use Rattle.tr_kernel.specs.declared.notes.TakenFrom.{TakenFrom}
 use Rattle.tr_kernel.specs.Laws.{RestartBetween, RestartsAt, StopsAt, TwoStops}
 use Rattle.tr_kernel.specs.Notes.{dying_by, exec_mark, is_stop_status, mark_of, notes_of, shows_stop, stop_mark, take_mark}
 use Rattle.tr_kernel.specs.Positions.{entry_at, table_at}
-use Rattle.tr_kernel.specs.Private.{IsRestartAt, deaths_to, is_exec_in, is_restart, mark_at, restarts_at, restarts_here}
+use Rattle.tr_kernel.specs.Private.{IsRestartAt, dying_at, is_exec_in, is_restart, mark_at, restarts_at, restarts_here}
 use Rattle.tr_kernel.specs.States.{IsHistory, State}
 use Rattle.tr_kernel.proofs.Begun.{is_start}
 use Rattle.tr_kernel.proofs.Cuts.{cut, dying_there, get_drop, get_take, replay_between, some_there, table_drop, table_take}
@@ -195,10 +195,10 @@ pub restarts_is : (s : Stopped) (a : ℕ) (T : Table) (es : List Entry) (k : ℕ
 restarts_is s a T es k e q =
     let ids = renamed_by T (take k es) in
     let M = table_at T es k in
-    let gs : take (deaths_to (notes_of T es) (suc k) - deaths_to (notes_of T es) k) (drop (deaths_to (notes_of T es) k) (dying_by T es)) ≡ (work_of M e).dying
+    let gs : dying_at (notes_of T es) (dying_by T es) k ≡ (work_of M e).dying
     = ap₂ (λ n d. take n (drop d (dying_by T es))) (deaths_after T es k e q) (deaths_is T es k (let l = slice_get_within es k e q in omega arith)) ∙ dying_there T es k e q in
     let same : restarts_at s a es (notes_of T es) (dying_by T es) k ≡ (is_restart s a e.actor e.event (mark_of ids M e.actor e.event e.choice) || list_any (λ h. h == s.group) (work_of M e).dying)
-    = ap₂ (λ o n. restarts_here s a o n (take (deaths_to (notes_of T es) (suc k) - deaths_to (notes_of T es) k) (drop (deaths_to (notes_of T es) k) (dying_by T es)))) q (note_is T es k e q) ∙ ap (λ ys. is_restart s a e.actor e.event (mark_of ids M e.actor e.event e.choice) || list_any (λ h. h == s.group) ys) gs in
+    = ap₂ (λ o n. restarts_here s a o n (dying_at (notes_of T es) (dying_by T es) k)) q (note_is T es k e q) ∙ ap (λ ys. is_restart s a e.actor e.event (mark_of ids M e.actor e.event e.choice) || list_any (λ h. h == s.group) ys) gs in
     rw same (either_is _ _ (IsRestart s.thread a s.group M e.actor e.event) (IsIn s.group (work_of M e).dying) (restart_is s a ids M e.actor e.event e.choice) (any_in s.group (work_of M e).dying))
 
 -- The law
