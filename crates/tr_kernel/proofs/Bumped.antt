@@ -2,9 +2,9 @@
 use Rattle.std.proofs.Common.{◌≡◌, ℕ, zero, suc, ◌+◌, ◌<◌, List, [], ◌∷◌, ◌++◌, length, take, drop, Bool, true, false, ◌==◌, if◌then◌else◌, get_or, set, refl, sym, ap, ap₂, ◌∙◌, arith}
 use Rattle.std.proofs.Math.Seq.{drop-length, take-length}
 use Rattle.std.proofs.lemmas.Bool.{eq-eqb, eqb-true, eqb-false}
-use Rattle.tr_model.specs.Journals.{occurs}
 use Rattle.tr_kernel.specs.declared.notes.Passed.{Passed}
 use Rattle.tr_kernel.specs.Notes.{times}
+use Rattle.tr_kernel.specs.Private.{PassOn}
 
 abbrev more : Passed → Passed
 more p = record { id = p.id; times = p.times + 1 }
@@ -57,11 +57,11 @@ times_bumped n id (p ∷ ps) = go (p.id == id) refl (p.id == n) refl (times_bump
 -- In the words of the code
 
 pub set_counts : (id k : ℕ) (ps : List Passed) (d p : Passed) → k < length ps → p ≡ get_or ps k d → p.id ≡ id → bumped id ps ≡ take k ps ++ bumped id (drop k ps)
-    → (n : ℕ) → times n (set ps k (record { id = p.id; times = p.times + 1 })) ≡ times n ps + occurs n (id ∷ [])
-set_counts id k ps d p l q e h n = ap (times n) (set_bumped id k ps d p l q e h) ∙ (times_bumped n id ps ∙ omega arith)
+    → PassOn (id ∷ []) ps (set ps k (record { id = p.id; times = p.times + 1 }))
+set_counts id k ps d p l q e h = record { counts = λ n. ap (times n) (set_bumped id k ps d p l q e h) ∙ (times_bumped n id ps ∙ omega arith) }
 
-pub append_counts : (id : ℕ) (ps : List Passed) → bumped id ps ≡ take (length ps) ps ++ bumped id (drop (length ps) ps) → (n : ℕ) → times n (ps ++ record { id = id; times = 1 } ∷ []) ≡ times n ps + occurs n (id ∷ [])
-append_counts id ps h n = ap (times n) (sym (h ∙ all)) ∙ (times_bumped n id ps ∙ omega arith)
+pub append_counts : (id : ℕ) (ps : List Passed) → bumped id ps ≡ take (length ps) ps ++ bumped id (drop (length ps) ps) → PassOn (id ∷ []) ps (ps ++ record { id = id; times = 1 } ∷ [])
+append_counts id ps h = record { counts = λ n. ap (times n) (sym (h ∙ all)) ∙ (times_bumped n id ps ∙ omega arith) }
   where
     all : take (length ps) ps ++ bumped id (drop (length ps) ps) ≡ ps ++ bumped id []
     all = ap₂ (λ xs ys. xs ++ bumped id ys) (take-length ps) (drop-length ps)

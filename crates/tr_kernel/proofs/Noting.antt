@@ -32,7 +32,7 @@ use Rattle.tr_kernel.specs.declared.notes.Mark.TheVariants.{Nothing, Take}
 use Rattle.tr_kernel.specs.declared.notes.Note.{Note}
 use Rattle.tr_kernel.specs.declared.notes.Passed.{Passed}
 use Rattle.tr_kernel.specs.Notes.{IsNoted, dying_by, is_some_group, mark_of, note_of, notes_from, notes_of, passes, take_mark, times}
-use Rattle.tr_kernel.specs.Private.{mark_after, mark_before, noted, passed_by, passed_id, passes_in}
+use Rattle.tr_kernel.specs.Private.{PassOn, mark_after, mark_before, noted, passed_by, passed_id, passes_in}
 use Rattle.tr_kernel.specs.States.{IsHistory, State}
 use Rattle.tr_kernel.proofs.Begun.{is_start}
 use Rattle.tr_kernel.proofs.Checks.{dues, take_any_numbered, take_numbered}
@@ -139,7 +139,7 @@ pub noted_begins : (T : Table) → IsNoted T [] [] [] []
 noted_begins T = record { notes = refl; dying = refl; passed = λ id. refl }
 
 pub noted_goes_on : (k : State) (x : Entry) (ns : List Note) (gs : List ℕ) (ps qs : List Passed) → IsHistory k → IsNoted (table_of k.start) k.journal ns gs ps → check k.table x.actor x.event ≡ Ok (Due x.choice)
-    → ((n : ℕ) → times n qs ≡ times n ps + occurs n (passed_by k.table x.event))
+    → PassOn (passed_by k.table x.event) ps qs
     → IsNoted (table_of k.start) (k.journal ++ x ∷ []) (ns ++ noted ps (length gs) k.table x ∷ []) (gs ++ (work_of k.table x).dying) qs
 noted_goes_on k x ns gs ps qs h n d more =
     let T = table_of k.start in
@@ -152,7 +152,7 @@ noted_goes_on k x ns gs ps qs h n d more =
       notes = ap₂ (λ xs y. xs ++ y ∷ []) n.notes one ∙ sym (all_notes_push T k.table k.journal k.replies x h.replayed);
       dying = ap (λ y. y ++ (work_of k.table x).dying) n.dying ∙ sym (dying_push T k.table k.journal k.replies x h.replayed);
       passed = λ id.
-          more id
+          more.counts id
           ∙ (ap₂ (λ a b. a + b) (n.passed id) (ap (occurs id) (sym (passed_is k.table x)))
           ∙ (sym (occurs-append id (renamed_by T k.journal) (work_of k.table x).renamed) ∙ ap (occurs id) (sym (renamed_push T k.table k.journal k.replies x h.replayed))));
     }

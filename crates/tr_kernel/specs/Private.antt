@@ -16,7 +16,7 @@ use Rattle.tr_model.specs.declared.replies.Reply.{Reply}
 use Rattle.tr_model.specs.declared.replies.Reply.TheVariants as reply
 use Rattle.tr_model.specs.declared.rows.Target.{Target}
 use Rattle.tr_model.specs.declared.rows.Target.TheVariants as target
-use Rattle.tr_model.specs.Journals.{same_fate, taken}
+use Rattle.tr_model.specs.Journals.{occurs, same_fate, taken}
 use Rattle.tr_model.specs.Moves.{Work}
 use Rattle.tr_model.specs.Steps.{after, number, work_of}
 use Rattle.tr_model.specs.Tables.{Table, thread_of}
@@ -78,6 +78,10 @@ passed_id (Some t) = if is_execing t.life && not (is_leader t) then t.group ∷ 
 abbrev pub passed_by : Table → Event → List ℕ
 passed_by T (event.Finish id) = passed_id (thread_of T id)
 passed_by T _ = []
+
+-- each id has passed on as often as before, and these once more
+pub record PassOn (ids : List ℕ) (old new : List Passed) : Type 0 where
+  pub counts : (n : ℕ) → times n new ≡ times n old + occurs n ids
 
 -- how often the id of the queue's thread has passed on
 abbrev pub passes_in : List Passed → Target → ℕ

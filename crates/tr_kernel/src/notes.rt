@@ -1,7 +1,7 @@
 ghost use Rattle.std.specs.Prelude.{◌≡◌, ◌≤◌, ◌<◌, ◌+◌, ◌++◌, ◌∷◌, ◌^◌, [], ℕ, false, length, not, option_copied, slice_get, vec_len, vec_capacity, ◌&&◌, OnOk};
-ghost use Rattle.tr_model.specs.Journals.{chosen, occurs};
+ghost use Rattle.tr_model.specs.Journals.{chosen};
 ghost use Rattle.tr_kernel.specs.Notes.{exec_mark, is_some_group, is_stop_status, shows_stop, stop_mark, times};
-ghost use Rattle.tr_kernel.specs.Private.{killed_in, mark_after, mark_before, mark_in, passed_by, passed_id, passes_in};
+ghost use Rattle.tr_kernel.specs.Private.{PassOn, killed_in, mark_after, mark_before, mark_in, passed_by, passed_id, passes_in};
 
 use crate::fates::{append, at_position};
 use std::alloc::{AllocError, Global};
@@ -185,7 +185,7 @@ fn passes_in(passed: &[Passed], queue: Target) -> u64
 fn bump(passed: &mut Vec<Passed>, id: u32)
     requires room { vec_len passed.old < vec_capacity passed.old }
     requires few { times id passed.old.items < 2 ^ 32 }
-    ensures { (n : ℕ) → times n passed.new.items ≡ times n passed.old.items + occurs n (id ∷ []) }
+    ensures { PassOn (id ∷ []) passed.old.items passed.new.items }
 {
     for place in 0..passed.len() {
         if passed[place].id == id {
@@ -199,7 +199,7 @@ fn bump(passed: &mut Vec<Passed>, id: u32)
 fn bump_some(passed: &mut Vec<Passed>, id: Option<u32>)
     requires room { vec_len passed.old < vec_capacity passed.old }
     requires few { (n : ℕ) → times n passed.old.items < 2 ^ 32 }
-    ensures { (n : ℕ) → times n passed.new.items ≡ times n passed.old.items + occurs n (chosen id) }
+    ensures { PassOn (chosen id) passed.old.items passed.new.items }
 {
     if let Some(id) = id {
         bump(passed, id);
@@ -293,7 +293,7 @@ impl Notes {
         requires few { (n : ℕ) → times n self.old.passed.items < 2 ^ 32 }
         ensures list { self.new.list.items ≡ self.old.list.items ++ record { mark = mark_after mark made.now.taken_from self.old.passed.items made.now.reply; killed = is_some_group made.now.killed.items; deaths = length self.old.dying.items + length made.now.dying.items } ∷ [] }
         ensures dying { self.new.dying.items ≡ self.old.dying.items ++ made.now.dying.items }
-        ensures passed { (n : ℕ) → times n self.new.passed.items ≡ times n self.old.passed.items + occurs n (chosen passing) }
+        ensures passed { PassOn (chosen passing) self.old.passed.items self.new.passed.items }
     {
         let mark = mark_after(mark, &made.reply, made.taken_from, &self.passed);
         append_all(&mut self.dying, &made.dying);
