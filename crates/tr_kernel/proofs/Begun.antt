@@ -1,6 +1,7 @@
 -- The table of a good start is one that nothing has happened to.
 use Rattle.std.proofs.Common.{◌≡◌, ℕ, suc, ◌||◌, ◌+◌, ◌≤◌, ◌==◌, ◌&&◌, List, [], ◌∷◌, ◌++◌, length, map, Bool, true, false, not, if◌then◌else◌, nat_le, refl, sym, ap, arith, subst, length-append}
-use Rattle.std.proofs.lemmas.Bool.{and_parts, eqb-true, leb-true}
+use Rattle.std.proofs.lemmas.Bool.{and_parts, eqb-true, leb-true, not-true}
+use Rattle.std.proofs.lemmas.List.{length-map}
 use Rattle.std.specs.Prelude.{IsTrue}
 use Rattle.std.specs.List.{list_all, list_any}
 use Rattle.tr_sigset.specs.declared.sets.SigSet.{SigSet}
@@ -46,10 +47,6 @@ absent n (x ∷ xs) h = go (x == n) h (absent n xs)
     go true q r = absurd cc
     go false q r = omega (arith, r q)
 
-not_true : (b : Bool) → IsTrue (not b) → b ≡ false
-not_true true h = absurd cc
-not_true false h = refl
-
 once : (xs : List ℕ) → IsTrue (no_repeat xs) → (n : ℕ) → occurs n xs ≤ 1
 once [] h n = omega arith
 once (x ∷ xs) h n = go (x == n) refl (once xs p.1 n)
@@ -58,7 +55,7 @@ once (x ∷ xs) h n = go (x == n) refl (once xs p.1 n)
     p = and_parts (not (list_any (λ y. y == x) xs)) (no_repeat xs) h
 
     go : (b : Bool) → (x == n) ≡ b → occurs n xs ≤ 1 → (if b then 1 else 0) + occurs n xs ≤ 1
-    go true q l = let z : occurs n xs ≡ 0 = subst (λ m. occurs m xs ≡ 0) (eqb-true x n q) (absent x xs (not_true (list_any (λ y. y == x) xs) p.0)) in omega arith
+    go true q l = let z : occurs n xs ≡ 0 = subst (λ m. occurs m xs ≡ 0) (eqb-true x n q) (absent x xs (not-true (list_any (λ y. y == x) xs) p.0)) in omega arith
     go false q l = omega arith
 
 -- Limits
@@ -70,32 +67,25 @@ one_thread g h = go g.threads h
     go [] q = absurd cc
     go (t ∷ ts) q = omega arith
 
-length_map : {X Y : Type 0} (f : X → Y) (xs : List X) → length (map f xs) ≡ length xs
-length_map f [] = refl
-length_map f (x ∷ xs) = ap suc (length_map f xs)
-
 few : (gs : List GroupStart) → IsTrue (list_all is_good_group gs) → length gs ≤ length (ids_started gs)
 few [] h = omega arith
 few (g ∷ gs) h =
     let p = and_parts (is_good_group g) (list_all is_good_group gs) h in
     let l = (and_parts (leads g.tgid g.threads) (nat_le (length g.threads) 64 && (is_good_name g.name && is_good_actions g.actions)) p.0).0 in
-    omega (arith, one_thread g l, few gs p.1, length-append (map (λ t. t.0) g.threads) (ids_started gs), length_map (λ t. t.0) g.threads)
-
-le_true : (a b : ℕ) → IsTrue (nat_le a b) → a ≤ b
-le_true a b h = leb-true a b h
+    omega (arith, one_thread g l, few gs p.1, length-append (map (λ t. t.0) g.threads) (ids_started gs), length-map g.threads (λ t. t.0))
 
 pub is_start : (s : Start) → IsTrue (is_good s) → IsStart (table_of s)
 is_start s h =
     let p = and_parts (list_all is_good_group s.groups) _ h in
     let q = and_parts (nat_le (length (ids_started s.groups)) 1024) _ p.1 in
     let r = and_parts (list_all is_good_id (ids_started s.groups)) (no_repeat (ids_started s.groups)) q.1 in
-    let n : length (ids_started s.groups) ≤ 1024 = le_true (length (ids_started s.groups)) 1024 q.0 in
+    let n : length (ids_started s.groups) ≤ 1024 = leb-true (length (ids_started s.groups)) 1024 q.0 in
     record {
       threads = all_fresh s.groups;
       groups = groups_fresh s.groups;
       ids = λ k. subst (λ xs. occurs k xs ≤ 1) (sym (ids_are s.groups)) (once (ids_started s.groups) r.1 k);
       few_threads = omega (arith, n, length_ids (all_started s.groups), ap length (ids_are s.groups));
-      few_groups = omega (arith, n, few s.groups p.0, length_map group_started s.groups);
+      few_groups = omega (arith, n, few s.groups p.0, length-map s.groups group_started);
       waiting = refl;
       accepted = refl;
       raised = refl;

@@ -1,12 +1,18 @@
 -- How often ids have passed on, with one of them once more.
-use Rattle.std.proofs.Common.{◌≡◌, ℕ, zero, suc, ◌+◌, ◌<◌, List, [], ◌∷◌, ◌++◌, length, take, drop, Bool, true, false, ◌==◌, if◌then◌else◌, get_or, set, refl, sym, ap, ◌∙◌, arith}
+use Rattle.std.proofs.Common.{◌≡◌, ℕ, zero, suc, ◌+◌, ◌<◌, List, [], ◌∷◌, ◌++◌, length, take, drop, Bool, true, false, ◌==◌, if◌then◌else◌, get_or, set, refl, sym, ap, ap₂, ◌∙◌, arith}
+use Rattle.std.proofs.Math.Seq.{drop-length, take-length}
 use Rattle.std.proofs.lemmas.Bool.{eq-eqb, eqb-true, eqb-false}
-use Rattle.tr_model.specs.Journals.{occurs}
 use Rattle.tr_kernel.specs.declared.notes.Passed.{Passed}
-use Rattle.tr_kernel.specs.Notes.{all_bumped, bumped, times}
+use Rattle.tr_kernel.specs.Notes.{times}
+use Rattle.tr_kernel.specs.Private.{PassOn}
 
 abbrev more : Passed → Passed
 more p = record { id = p.id; times = p.times + 1 }
+
+-- the list with the id once more
+abbrev pub bumped : ℕ → List Passed → List Passed
+bumped id [] = record { id = id; times = 1 } ∷ []
+bumped id (p ∷ ps) = if p.id == id then more p ∷ ps else p ∷ bumped id ps
 
 bumped_there : (id k : ℕ) (ps : List Passed) (d : Passed) → k < length ps → (get_or ps k d).id ≡ id → set ps k (more (get_or ps k d)) ≡ take k ps ++ bumped id (drop k ps)
 bumped_there id k [] d l e = absurd (omega arith)
@@ -17,11 +23,11 @@ bumped_there id zero (p ∷ ps) d l e = go (p.id == id) (eq-eqb p.id id e)
     go false h = absurd cc
 bumped_there id (suc k) (p ∷ ps) d l e = ap (λ qs. p ∷ qs) (bumped_there id k ps d (omega arith) e)
 
-pub set_bumped : (id k : ℕ) (ps : List Passed) (d p : Passed) → k < length ps → p ≡ get_or ps k d → p.id ≡ id → bumped id ps ≡ take k ps ++ bumped id (drop k ps) → set ps k (record { id = p.id; times = p.times + 1 }) ≡ bumped id ps
+set_bumped : (id k : ℕ) (ps : List Passed) (d p : Passed) → k < length ps → p ≡ get_or ps k d → p.id ≡ id → bumped id ps ≡ take k ps ++ bumped id (drop k ps) → set ps k (record { id = p.id; times = p.times + 1 }) ≡ bumped id ps
 set_bumped id k ps d p l q e h = ap (λ x. set ps k (more x)) q ∙ (bumped_there id k ps d l (ap (λ (x : Passed). x.id) (sym q) ∙ e) ∙ sym h)
 
 -- each other id has passed on as often as before
-pub times_bumped : (n id : ℕ) (ps : List Passed) → times n (bumped id ps) ≡ times n ps + (if id == n then 1 else 0)
+times_bumped : (n id : ℕ) (ps : List Passed) → times n (bumped id ps) ≡ times n ps + (if id == n then 1 else 0)
 times_bumped n id [] = go (id == n)
   where
     go : (b : Bool) → (if b then 1 else 0) ≡ 0 + (if b then 1 else 0)
@@ -48,7 +54,14 @@ times_bumped n id (p ∷ ps) = go (p.id == id) refl (p.id == n) refl (times_bump
     go true h b k ih = here (eqb-true p.id id h) (p.id == n) refl (id == n) refl
     go false h b k ih = there (eqb-false p.id id h) (p.id == n) refl ih
 
--- all that passed on, counted
-pub times_all : (n : ℕ) (ids : List ℕ) (ps : List Passed) → times n (all_bumped ids ps) ≡ times n ps + occurs n ids
-times_all n [] ps = omega arith
-times_all n (id ∷ ids) ps = omega (arith, times_all n ids (bumped id ps), times_bumped n id ps)
+-- In the words of the code
+
+pub set_counts : (id k : ℕ) (ps : List Passed) (d p : Passed) → k < length ps → p ≡ get_or ps k d → p.id ≡ id → bumped id ps ≡ take k ps ++ bumped id (drop k ps)
+    → PassOn (id ∷ []) ps (set ps k (record { id = p.id; times = p.times + 1 }))
+set_counts id k ps d p l q e h = record { counts = λ n. ap (times n) (set_bumped id k ps d p l q e h) ∙ (times_bumped n id ps ∙ omega arith) }
+
+pub append_counts : (id : ℕ) (ps : List Passed) → bumped id ps ≡ take (length ps) ps ++ bumped id (drop (length ps) ps) → PassOn (id ∷ []) ps (ps ++ record { id = id; times = 1 } ∷ [])
+append_counts id ps h = record { counts = λ n. ap (times n) (sym (h ∙ all)) ∙ (times_bumped n id ps ∙ omega arith) }
+  where
+    all : take (length ps) ps ++ bumped id (drop (length ps) ps) ≡ ps ++ bumped id []
+    all = ap₂ (λ xs ys. xs ++ bumped id ys) (take-length ps) (drop-length ps)

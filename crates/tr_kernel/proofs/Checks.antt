@@ -1,5 +1,6 @@
 -- What a check says, in its parts.
 use Rattle.std.proofs.Common.{◌≡◌, ◌∙◌, ◌||◌, ◌++◌, ◌∷◌, [], ℕ, List, Bool, true, false, not, if◌then◌else◌, is_some, Option, Some, None, Result, Ok, Err, refl, sym, ap}
+use Rattle.std.proofs.lemmas.Option.{same_Some}
 use Rattle.std.specs.List.{list_any}
 use Rattle.tr_model.specs.declared.checked.Checked.{Checked}
 use Rattle.tr_model.specs.declared.checked.Checked.TheVariants.{Due, Quiet}
@@ -22,12 +23,6 @@ use Rattle.tr_model.specs.Waits.{ready, ready_for_starter}
 use Rattle.tr_wait.specs.declared.waits.WaitFlags.{WaitFlags}
 use Rattle.tr_wait.specs.declared.waits.Which.{Which}
 use Rattle.tr_model.proofs.Causing.{causes_are_causes}
-
-some_same : {A : Type 0} (x y : A) → Some x ≡ Some y → x ≡ y
-some_same x y e = cc
-
-none_some : {A : Type 0} (x : A) → None ≡ Some x → ⊥
-none_some x e = cc
 
 due_same : (x y : Choice) → ◌≡◌ {A = Result Checked Refusal} (Ok (Due x)) (Ok (Due y)) → x ≡ y
 due_same x y e = cc
@@ -134,10 +129,10 @@ starter_numbered T a which flags c q p = reported (ready_for_starter T which fla
 -- The fields of a choice
 
 pub same_take_by : (c : Choice) (id n u v : ℕ) → c ≡ takes_by id n → c.thread ≡ Some u → c.instance ≡ Some v → c ≡ takes_by u v
-same_take_by c id n u v e f g = e ∙ (ap (λ x. takes_by x n) (some_same id u (sym (ap (λ x. x.thread) e) ∙ f)) ∙ ap (takes_by u) (some_same n v (sym (ap (λ x. x.instance) e) ∙ g)))
+same_take_by c id n u v e f g = e ∙ (ap (λ x. takes_by x n) (same_Some id u (sym (ap (λ x. x.thread) e) ∙ f)) ∙ ap (takes_by u) (same_Some n v (sym (ap (λ x. x.instance) e) ∙ g)))
 
 pub same_id : (c : Choice) (id u : ℕ) → c ≡ gives_id id → c.new_id ≡ Some u → c ≡ gives_id u
-same_id c id u e f = e ∙ ap gives_id (some_same id u (sym (ap (λ x. x.new_id) e) ∙ f))
+same_id c id u e f = e ∙ ap gives_id (same_Some id u (sym (ap (λ x. x.new_id) e) ∙ f))
 
 pub same_report : (c : Choice) (r u : ℕ) → c ≡ gives_report r → c.report ≡ Some u → c ≡ gives_report u
-same_report c r u e f = e ∙ ap gives_report (some_same r u (sym (ap (λ x. x.report) e) ∙ f))
+same_report c r u e f = e ∙ ap gives_report (same_Some r u (sym (ap (λ x. x.report) e) ∙ f))

@@ -1,5 +1,7 @@
 -- A journal that replays, cut at a position.
-use Rattle.std.proofs.Common.{◌≡◌, ℕ, zero, suc, ◌+◌, ◌<◌, ◌≤◌, List, [], ◌∷◌, ◌++◌, length, take, drop, Some, None, refl, sym, ap, ◌∙◌, subst, arith, inl, inr, append-nil, append_assoc}
+use Rattle.std.proofs.Common.{◌≡◌, ℕ, zero, suc, ◌+◌, ◌<◌, ◌≤◌, List, [], ◌∷◌, ◌++◌, length, take, drop, Some, refl, sym, ap, ◌∙◌, subst, arith, inl, inr, append-nil, append_assoc, length-append}
+use Rattle.std.proofs.Math.Seq.{drop-append-add, take-append_seam}
+use Rattle.std.proofs.lemmas.Option.{none-some, same_Some}
 use Rattle.std.specs.Prelude.{slice_get}
 use Rattle.tr_model.specs.declared.events.Entry.{Entry}
 use Rattle.tr_model.specs.declared.replies.Reply.{Reply}
@@ -8,12 +10,6 @@ use Rattle.tr_model.specs.Steps.{Step, work_of}
 use Rattle.tr_model.specs.Tables.{Table}
 use Rattle.tr_kernel.specs.Notes.{dying_by}
 use Rattle.tr_kernel.specs.Positions.{table_at}
-
-some_entry : (x y : Entry) → Some x ≡ Some y → x ≡ y
-some_entry x y e = cc
-
-none_entry : (x : Entry) → None ≡ Some x → ⊥
-none_entry x e = cc
 
 -- the parts before an entry, at it and after it
 pub record Cut (T : Table) (es : List Entry) (rs : List Reply) (U : Table) (k : ℕ) (e : Entry) : Type 0 where
@@ -29,12 +25,12 @@ goes_on : (T M U : Table) (x : Entry) (r : Reply) (es : List Entry) (rs : List R
 goes_on T M U x r es rs s h = subst (λ N. Replay N es rs U) s.table h
 
 pub cut : (k : ℕ) (T U : Table) (es : List Entry) (rs : List Reply) (e : Entry) → Replay T es rs U → slice_get es k ≡ Some e → Cut T es rs U k e
-cut k T U [] rs e h q = absurd (none_entry e q)
+cut k T U [] rs e h q = absurd (none-some e q)
 cut k T U (x ∷ es) [] e h q = absurd h
 cut zero T U (x ∷ es) (r ∷ rs) e h q = record {
   reply = r;
   earlier = refl;
-  step = subst (λ y. Step T y r (work_of T x).table) (some_entry x e q) (made T h.0 x r h.1);
+  step = subst (λ y. Step T y r (work_of T x).table) (same_Some x e q) (made T h.0 x r h.1);
   later = goes_on T h.0 U x r es rs h.1 h.2;
 }
 cut (suc k) T U (x ∷ es) (r ∷ rs) e h q =
@@ -49,11 +45,6 @@ replay_to (suc n) T U (x ∷ es) [] h l = absurd h
 replay_to (suc n) T U (x ∷ es) (r ∷ rs) h l = ((work_of T x).table, made T h.0 x r h.1, replay_to n (work_of T x).table U es rs (goes_on T h.0 U x r es rs h.1 h.2) (omega arith))
 
 -- Places
-
-pub there : (es : List Entry) (k : ℕ) (e : Entry) → slice_get es k ≡ Some e → k < length es
-there [] k e q = absurd (none_entry e q)
-there (x ∷ es) zero e q = omega arith
-there (x ∷ es) (suc k) e q = omega (arith, there es k e q)
 
 pub some_there : (es : List Entry) (k : ℕ) → k < length es → (e : Entry) × (slice_get es k ≡ Some e)
 some_there [] k l = absurd (omega arith)
@@ -89,12 +80,19 @@ table_drop T (x ∷ es) (suc i) n = table_drop (work_of T x).table es i n ∙ ap
     next : suc (i + n) ≡ suc i + n
     next = omega arith
 
+-- the part between an entry and a later position
+pub replay_between : (i j : ℕ) (T : Table) (es : List Entry) (rs : List Reply) (e : Entry) → Replay T (take j es) (take j rs) (table_at T es j) → i < j → slice_get es i ≡ Some e
+    → Replay (table_at T es (suc i)) (drop (suc i) (take j es)) (drop (suc i) (take j rs)) (table_at T es j)
+replay_between i j T es rs e h l q =
+    let c = cut i T (table_at T es j) (take j es) (take j rs) e h (get_take es j i l ∙ q) in
+    subst (λ M. Replay M (drop (suc i) (take j es)) (drop (suc i) (take j rs)) (table_at T es j)) (table_take T es j (suc i) (omega arith)) c.later
+
 -- What the entries up to a place did
 
 pub killed_there : (T : Table) (es : List Entry) (k n g : ℕ) (e : Entry) → slice_get es k ≡ Some e → k < n → IsIn g (work_of (table_at T es k) e).killed → IsIn g (killed_by T (take n es))
-killed_there T [] k n g e q l h = absurd (none_entry e q)
+killed_there T [] k n g e q l h = absurd (none-some e q)
 killed_there T (x ∷ es) k zero g e q l h = absurd (omega arith)
-killed_there T (x ∷ es) zero (suc n) g e q l h = in_left g (work_of T x).killed _ (subst (λ y. IsIn g (work_of T y).killed) (sym (some_entry x e q)) h)
+killed_there T (x ∷ es) zero (suc n) g e q l h = in_left g (work_of T x).killed _ (subst (λ y. IsIn g (work_of T y).killed) (sym (same_Some x e q)) h)
   where
     in_left : (g : ℕ) (xs ys : List ℕ) → IsIn g xs → IsIn g (xs ++ ys)
     in_left g [] ys m = absurd m
@@ -112,8 +110,8 @@ renamed_split T [] (suc i) = refl
 renamed_split T (x ∷ es) (suc i) = ap (λ ys. (work_of T x).renamed ++ ys) (renamed_split (work_of T x).table es i) ∙ sym (append_assoc (work_of T x).renamed (renamed_by (work_of T x).table (take i es)) (renamed_by (table_at (work_of T x).table es i) (drop i es)))
 
 pub renamed_next : (T : Table) (es : List Entry) (k : ℕ) (e : Entry) → slice_get es k ≡ Some e → renamed_by T (take (suc k) es) ≡ renamed_by T (take k es) ++ (work_of (table_at T es k) e).renamed
-renamed_next T [] k e q = absurd (none_entry e q)
-renamed_next T (x ∷ es) zero e q = append-nil (work_of T x).renamed ∙ ap (λ y. (work_of T y).renamed) (some_entry x e q)
+renamed_next T [] k e q = absurd (none-some e q)
+renamed_next T (x ∷ es) zero e q = append-nil (work_of T x).renamed ∙ ap (λ y. (work_of T y).renamed) (same_Some x e q)
 renamed_next T (x ∷ es) (suc k) e q =
     ap (λ ys. (work_of T x).renamed ++ ys) (renamed_next (work_of T x).table es k e q)
     ∙ sym (append_assoc (work_of T x).renamed (renamed_by (work_of T x).table (take k es)) (work_of (table_at (work_of T x).table es k) e).renamed)
@@ -121,16 +119,11 @@ renamed_next T (x ∷ es) (suc k) e q =
 -- the deaths that an entry began, among all
 pub dying_there : (T : Table) (es : List Entry) (k : ℕ) (e : Entry) → slice_get es k ≡ Some e
     → take (length (work_of (table_at T es k) e).dying) (drop (length (dying_by T (take k es))) (dying_by T es)) ≡ (work_of (table_at T es k) e).dying
-dying_there T [] k e q = absurd (none_entry e q)
-dying_there T (x ∷ es) zero e q = subst (λ y. take (length (work_of T y).dying) ((work_of T x).dying ++ dying_by (work_of T x).table es) ≡ (work_of T y).dying) (some_entry x e q) (front (work_of T x).dying (dying_by (work_of T x).table es))
-  where
-    front : (xs ys : List ℕ) → take (length xs) (xs ++ ys) ≡ xs
-    front [] ys = refl
-    front (x ∷ xs) ys = ap (λ zs. x ∷ zs) (front xs ys)
+dying_there T [] k e q = absurd (none-some e q)
+dying_there T (x ∷ es) zero e q = subst (λ y. take (length (work_of T y).dying) ((work_of T x).dying ++ dying_by (work_of T x).table es) ≡ (work_of T y).dying) (same_Some x e q) (take-append_seam (work_of T x).dying (dying_by (work_of T x).table es))
 dying_there T (x ∷ es) (suc k) e q =
     ap (take (length (work_of (table_at (work_of T x).table es k) e).dying)) (past (work_of T x).dying (dying_by (work_of T x).table (take k es)) (dying_by (work_of T x).table es))
     ∙ dying_there (work_of T x).table es k e q
   where
     past : (xs ys zs : List ℕ) → drop (length (xs ++ ys)) (xs ++ zs) ≡ drop (length ys) zs
-    past [] ys zs = refl
-    past (x ∷ xs) ys zs = past xs ys zs
+    past xs ys zs = ap (λ n. drop n (xs ++ zs)) (length-append xs ys) ∙ drop-append-add xs zs (length ys)

@@ -1,5 +1,5 @@
 -- One more entry in a history.
-use Rattle.std.proofs.Common.{◌≡◌, ℕ, ◌+◌, ◌-◌, ◌≤◌, List, [], ◌∷◌, ◌++◌, length, replicate, Ok, Some, None, Option, refl, sym, ap, ap₂, ◌∙◌, subst, arith, append_assoc, ◌⊎◌, inl, inr}
+use Rattle.std.proofs.Common.{◌≡◌, ℕ, ◌+◌, ◌-◌, ◌≤◌, List, [], ◌∷◌, ◌++◌, length, replicate, Ok, Some, None, Option, refl, sym, ap, ap₂, ◌∙◌, subst, arith, append-nil, append_assoc, ◌⊎◌, inl, inr}
 use Rattle.std.proofs.lemmas.Bool.{cases_eq, leb-true}
 use Rattle.std.specs.Prelude.{IsTrue, IfSome, slice_get, nat_le, Bool, true, false, ◌&&◌, if◌then◌else◌}
 use Rattle.tr_model.specs.declared.checked.Checked.TheVariants.{Due}
@@ -13,7 +13,7 @@ use Rattle.tr_model.specs.declared.replies.Reply.{Reply}
 use Rattle.tr_model.specs.Laws.{OneFate}
 use Rattle.tr_model.proofs.Reports.{consumed_once}
 use Rattle.tr_model.proofs.Tally.{fates_agree}
-use Rattle.tr_model.specs.Journals.{HasFate, consumed_by, fate_of, how_many, or_pending, totals, totals, Replay, ended_as, ended_by, held_numbers, numbers_of, occurs, waiting_numbers}
+use Rattle.tr_model.specs.Journals.{HasFate, consumed_by, fate_of, how_many, or_pending, totals, Replay, ended_as, ended_by, held_numbers, numbers_of, occurs, waiting_numbers}
 use Rattle.tr_model.specs.Preferred.{check, preferred}
 use Rattle.tr_model.specs.Steps.{Admits, Step, after, work_of}
 use Rattle.tr_model.specs.Tables.{Table}
@@ -26,11 +26,12 @@ use Rattle.tr_model.proofs.Runs.{replay_push}
 use Rattle.tr_model.proofs.Standing.{ids_are_distinct}
 use Rattle.tr_table.specs.declared.starts.Start.{Start}
 use Rattle.tr_table.specs.Starts.{is_good, table_of}
-use Rattle.tr_kernel.specs.Fates.{all_noted, count_of, fates_after, fates_to, tally}
+use Rattle.tr_kernel.specs.Fates.{fates_to}
+use Rattle.tr_kernel.specs.Private.{count_of, endings_noted, fates_after, tally}
 use Rattle.tr_kernel.specs.States.{AcceptsFew, IsEntered, IsHistory, State}
 use Rattle.tr_kernel.proofs.Begun.{is_start}
 use Rattle.tr_kernel.proofs.Checks.{dues}
-use Rattle.tr_kernel.proofs.Noted.{all_noted_is, count_is, fate_kept, grown, length_fates, not_ended}
+use Rattle.tr_kernel.proofs.Noted.{endings_noted_is, count_is, fate_kept, grown, length_fates, not_ended}
 
 -- What every kernel has
 
@@ -104,11 +105,7 @@ accepts_few k x r U h s =
 -- The fates
 
 ended_push : (T U : Table) (es : List Entry) (rs : List Reply) (x : Entry) → Replay T es rs U → ended_by T (es ++ x ∷ []) ≡ ended_by T es ++ (work_of U x).ended
-ended_push T U [] [] x h = subst (λ (M : Table). (work_of T x).ended ++ [] ≡ (work_of M x).ended) (sym h) (append_none (work_of T x).ended)
-  where
-    append_none : (ys : List Ending) → ys ++ [] ≡ ys
-    append_none [] = refl
-    append_none (y ∷ ys) = ap (λ zs. y ∷ zs) (append_none ys)
+ended_push T U [] [] x h = subst (λ (M : Table). (work_of T x).ended ++ [] ≡ (work_of M x).ended) (sym h) (append-nil (work_of T x).ended)
 ended_push T U [] (r ∷ rs) x h = absurd h
 ended_push T U (e ∷ es) [] x h = absurd h
 ended_push T U (e ∷ es) (r ∷ rs) x h =
@@ -143,8 +140,8 @@ fates_go_on k x r h s =
     let more : k.fates ++ replicate (W.table.accepted - length k.fates) Pending ≡ fates_to E W.table.accepted =
     ap₂ (λ fs n. fs ++ replicate (W.table.accepted - n) Pending) h.fates (counted k h)
     ∙ (grown E 1 a (W.table.accepted - a) (none_above k h) ∙ ap (fates_to E) (omega (arith, b.grows))) in
-    ap (all_noted W.ended) more
-    ∙ (all_noted_is E W.ended W.table.accepted (ended_live T k.table k.journal k.replies h.replayed) (live_end E W.ended live) ∙ ap (λ es. fates_to es W.table.accepted) (sym pushed))
+    ap (endings_noted W.ended) more
+    ∙ (endings_noted_is E W.ended W.table.accepted (ended_live T k.table k.journal k.replies h.replayed) (live_end E W.ended live) ∙ ap (λ es. fates_to es W.table.accepted) (sym pushed))
 
 -- Histories
 

@@ -1,6 +1,7 @@
 -- The fates that a kernel writes down are those of its journal.
-use Rattle.std.proofs.Common.{◌≡◌, ℕ, zero, suc, ◌+◌, ◌-◌, ◌≤◌, ◌<◌, List, [], ◌∷◌, ◌++◌, length, length-append, filter, replicate, Bool, true, false, ◌&&◌, ◌==◌, if◌then◌else◌, Some, None, nat_le, slice_get, get_or, set, refl, sym, ap, ap₂, ◌∙◌, arith, append_assoc}
+use Rattle.std.proofs.Common.{◌≡◌, ℕ, zero, suc, ◌+◌, ◌-◌, ◌≤◌, ◌<◌, List, [], ◌∷◌, ◌++◌, length, length-append, filter, replicate, Bool, true, false, ◌&&◌, ◌==◌, if◌then◌else◌, Some, None, nat_le, slice_get, get_or, set, refl, sym, ap, ap₂, ◌∙◌, arith, append-nil, append_assoc}
 use Rattle.std.proofs.lemmas.Bool.{le-leb, leb-true, leb-false, eq-eqb, ne_eqb, and_from}
+use Rattle.std.proofs.lemmas.List.Elements.{filter-append}
 use Rattle.tr_model.specs.declared.events.Entry.{Entry}
 use Rattle.tr_model.specs.declared.fates.Ending.{Ending}
 use Rattle.tr_model.specs.declared.fates.Fate.{Fate}
@@ -9,11 +10,8 @@ use Rattle.tr_model.specs.Journals.{ended_as, ended_by, fate_of, how_many, count
 use Rattle.tr_model.specs.Tables.{Table}
 use Rattle.tr_model.proofs.Kept.{is_pending}
 use Rattle.tr_model.proofs.Live.{AllLive}
-use Rattle.tr_kernel.specs.Fates.{all_noted, count_of, fates_from, fates_to, first_of, noted}
-
-append_nil : {X : Type 0} (xs : List X) → xs ++ [] ≡ xs
-append_nil [] = refl
-append_nil (x ∷ xs) = ap (λ ys. x ∷ ys) (append_nil xs)
+use Rattle.tr_kernel.specs.Fates.{fates_from, fates_to}
+use Rattle.tr_kernel.specs.Private.{count_of, ending_noted, endings_noted, first_of}
 
 -- One ending more
 
@@ -38,7 +36,7 @@ note_one (e ∷ es) x n l = go (e.number == n) (x.number == n) (note_one es x n 
     go true false h = refl
     go false c h = h
 
-noted_is : (E : List Ending) (x : Ending) (n k : ℕ) → AllLive E → noted n x (fates_from E n k) ≡ fates_from (E ++ x ∷ []) n k
+noted_is : (E : List Ending) (x : Ending) (n k : ℕ) → AllLive E → ending_noted n x (fates_from E n k) ≡ fates_from (E ++ x ∷ []) n k
 noted_is E x n zero l = refl
 noted_is E x n (suc k) l = ap₂ (λ f fs. f ∷ fs) (note_one E x n l) (noted_is E x (suc n) k l)
 
@@ -46,15 +44,15 @@ live_then : (E : List Ending) (x : Ending) → AllLive E → is_pending x.fate �
 live_then [] x l h = (h, tt)
 live_then (e ∷ es) x l h = (l.0, live_then es x l.1 h)
 
-pub all_noted_is : (E X : List Ending) (k : ℕ) → AllLive E → AllLive X → all_noted X (fates_to E k) ≡ fates_to (E ++ X) k
-all_noted_is E [] k l m = ap (λ es. fates_to es k) (sym (append_nil E))
-all_noted_is E (x ∷ X) k l m =
-    ap (all_noted X) (noted_is E x 1 k l)
-    ∙ (all_noted_is (E ++ x ∷ []) X k (live_then E x l m.0) m.1 ∙ ap (λ es. fates_to es k) (append_assoc E (x ∷ []) X))
+pub endings_noted_is : (E X : List Ending) (k : ℕ) → AllLive E → AllLive X → endings_noted X (fates_to E k) ≡ fates_to (E ++ X) k
+endings_noted_is E [] k l m = ap (λ es. fates_to es k) (sym (append-nil E))
+endings_noted_is E (x ∷ X) k l m =
+    ap (endings_noted X) (noted_is E x 1 k l)
+    ∙ (endings_noted_is (E ++ x ∷ []) X k (live_then E x l m.0) m.1 ∙ ap (λ es. fates_to es k) (append_assoc E (x ∷ []) X))
 
 -- One ending, by its place
 
-noted_before : (n : ℕ) (x : Ending) (fs : List Fate) → x.number < n → fs ≡ noted n x fs
+noted_before : (n : ℕ) (x : Ending) (fs : List Fate) → x.number < n → fs ≡ ending_noted n x fs
 noted_before n x [] h = refl
 noted_before n x (f ∷ fs) h = ap₂ (λ g gs. g ∷ gs) (go (x.number == n) (ne_eqb x.number n (λ e. omega arith))) (noted_before (suc n) x fs (omega arith))
   where
@@ -62,7 +60,7 @@ noted_before n x (f ∷ fs) h = ap₂ (λ g gs. g ∷ gs) (go (x.number == n) (n
     go true e = absurd cc
     go false e = refl
 
-pub noted_past : (n : ℕ) (x : Ending) (fs : List Fate) → n + length fs ≤ x.number → fs ≡ noted n x fs
+pub noted_past : (n : ℕ) (x : Ending) (fs : List Fate) → n + length fs ≤ x.number → fs ≡ ending_noted n x fs
 noted_past n x [] h = refl
 noted_past n x (f ∷ fs) h = ap₂ (λ g gs. g ∷ gs) (go (x.number == n) (ne_eqb x.number n (λ e. omega arith))) (noted_past (suc n) x fs (omega arith))
   where
@@ -71,20 +69,12 @@ noted_past n x (f ∷ fs) h = ap₂ (λ g gs. g ∷ gs) (go (x.number == n) (ne_
     go false e = refl
 
 opened_first : (f g : Fate) → same_fate Pending f ≡ true → g ≡ first_of f g
-opened_first Pending g h = refl
-opened_first Merged g h = absurd cc
-opened_first Delivered g h = absurd cc
-opened_first Suppressed g h = absurd cc
-opened_first Flushed g h = absurd cc
+opened_first f g h = rw h refl
 
 closed_first : (f g : Fate) → same_fate Pending f ≡ false → f ≡ first_of f g
-closed_first Pending g h = absurd cc
-closed_first Merged g h = refl
-closed_first Delivered g h = refl
-closed_first Suppressed g h = refl
-closed_first Flushed g h = refl
+closed_first f g h = rw h refl
 
-pub noted_open : (n : ℕ) (x : Ending) (fs : List Fate) (i : ℕ) (d : Fate) → x.number ≡ n + i → i < length fs → same_fate Pending (get_or fs i d) ≡ true → set fs i x.fate ≡ noted n x fs
+pub noted_open : (n : ℕ) (x : Ending) (fs : List Fate) (i : ℕ) (d : Fate) → x.number ≡ n + i → i < length fs → same_fate Pending (get_or fs i d) ≡ true → set fs i x.fate ≡ ending_noted n x fs
 noted_open n x [] i d e h o = absurd (omega arith)
 noted_open n x (f ∷ fs) zero d e h o = ap₂ (λ g gs. g ∷ gs) (go (x.number == n) (eq-eqb x.number n (omega arith))) (noted_before (suc n) x fs (omega arith))
   where
@@ -97,7 +87,7 @@ noted_open n x (f ∷ fs) (suc i) d e h o = ap₂ (λ g gs. g ∷ gs) (go (x.num
     go true q = absurd cc
     go false q = refl
 
-pub noted_closed : (n : ℕ) (x : Ending) (fs : List Fate) (i : ℕ) (d : Fate) → x.number ≡ n + i → i < length fs → same_fate Pending (get_or fs i d) ≡ false → fs ≡ noted n x fs
+pub noted_closed : (n : ℕ) (x : Ending) (fs : List Fate) (i : ℕ) (d : Fate) → x.number ≡ n + i → i < length fs → same_fate Pending (get_or fs i d) ≡ false → fs ≡ ending_noted n x fs
 noted_closed n x [] i d e h o = absurd (omega arith)
 noted_closed n x (f ∷ fs) zero d e h o = ap₂ (λ g gs. g ∷ gs) (go (x.number == n) (eq-eqb x.number n (omega arith))) (noted_before (suc n) x fs (omega arith))
   where
@@ -110,7 +100,7 @@ noted_closed n x (f ∷ fs) (suc i) d e h o = ap₂ (λ g gs. g ∷ gs) (go (x.n
     go true q = absurd cc
     go false q = refl
 
-pub noted_none : (x : Ending) (fs : List Fate) → x.number ≡ 0 → fs ≡ noted 1 x fs
+pub noted_none : (x : Ending) (fs : List Fate) → x.number ≡ 0 → fs ≡ ending_noted 1 x fs
 noted_none x fs h = noted_before 1 x fs (omega arith)
 
 -- More numbers
@@ -165,16 +155,8 @@ fate_kept T U es n h = go (nat_le n U.accepted) refl
 
 -- How many
 
-filter_append : (f : Fate) (xs ys : List Fate) → filter (same_fate f) (xs ++ ys) ≡ filter (same_fate f) xs ++ filter (same_fate f) ys
-filter_append f [] ys = refl
-filter_append f (x ∷ xs) ys = go (same_fate f x) (filter_append f xs ys)
-  where
-    go : (b : Bool) → filter (same_fate f) (xs ++ ys) ≡ filter (same_fate f) xs ++ filter (same_fate f) ys → (if b then x ∷ filter (same_fate f) (xs ++ ys) else filter (same_fate f) (xs ++ ys)) ≡ (if b then x ∷ filter (same_fate f) xs else filter (same_fate f) xs) ++ filter (same_fate f) ys
-    go true h = ap (λ zs. x ∷ zs) h
-    go false h = h
-
 count_append : (f : Fate) (xs ys : List Fate) → count_of f (xs ++ ys) ≡ count_of f xs + count_of f ys
-count_append f xs ys = ap length (filter_append f xs ys) ∙ length-append (filter (same_fate f) xs) (filter (same_fate f) ys)
+count_append f xs ys = ap length (filter-append (same_fate f) xs ys) ∙ length-append (filter (same_fate f) xs) (filter (same_fate f) ys)
 
 fates_snoc : (E : List Ending) (n k : ℕ) → fates_from E n (suc k) ≡ fates_from E n k ++ or_pending (ended_as E (n + k)) ∷ []
 fates_snoc E n zero = ap (λ m. or_pending (ended_as E m) ∷ []) (omega arith)
@@ -198,8 +180,3 @@ count_is T U es f (suc k) h =
 
     one : count_of f (or_pending (ended_as (ended_by T es) (suc k)) ∷ []) ≡ counts f (fate_of T es U (suc k))
     one = go (nat_le 1 (suc k) && nat_le (suc k) U.accepted) (and_from _ _ (le-leb 1 (suc k) (omega arith)) (le-leb (suc k) U.accepted h)) (or_pending (ended_as (ended_by T es) (suc k)))
-
--- one open fate more
-pub replicate_more : (k : ℕ) (f : Fate) → replicate k f ++ f ∷ [] ≡ replicate (k + 1) f
-replicate_more zero f = refl
-replicate_more (suc k) f = let e : suc (k + 1) ≡ suc k + 1 = omega arith in ap (λ fs. f ∷ fs) (replicate_more k f) ∙ ap (λ n. replicate n f) e

@@ -31,10 +31,10 @@ use Rattle.tr_table.specs.Starts.{table_of}
 use Rattle.tr_kernel.specs.declared.notes.Mark.TheVariants.{Nothing, Take}
 use Rattle.tr_kernel.specs.declared.notes.Note.{Note}
 use Rattle.tr_kernel.specs.declared.notes.Passed.{Passed}
-use Rattle.tr_kernel.specs.Notes.{IsNoted, all_bumped, dying_by, is_some_group, mark_after, mark_before, mark_of, note_of, noted, notes_from, notes_of, passed_by, passed_id, passes, passes_in, take_mark, times}
+use Rattle.tr_kernel.specs.Notes.{IsNoted, dying_by, is_some_group, mark_of, note_of, notes_from, notes_of, passes, take_mark, times}
+use Rattle.tr_kernel.specs.Private.{PassOn, mark_after, mark_before, noted, passed_by, passed_id, passes_in}
 use Rattle.tr_kernel.specs.States.{IsHistory, State}
 use Rattle.tr_kernel.proofs.Begun.{is_start}
-use Rattle.tr_kernel.proofs.Bumped.{times_all}
 use Rattle.tr_kernel.proofs.Checks.{dues, take_any_numbered, take_numbered}
 use Rattle.tr_kernel.proofs.Logs.{passed_is}
 
@@ -45,22 +45,22 @@ passes_same ids ps h (target.Thread id) = h id
 passes_same ids ps h (target.Group g) = refl
 
 take_marked : (T : Table) (ids : List ℕ) (ps : List Passed) → ((n : ℕ) → times n ps ≡ occurs n ids) → IsSorted T.waiting → (id n : ℕ) → IsDue T id n
-    → mark_after Nothing (Steps.took T (thread_of T id) (instance_in T.waiting n)) (queue_of (taken_by T (thread_of T id) n)) ps ≡ take_mark ids (taken_by T (thread_of T id) n)
+    → mark_after Nothing (queue_of (taken_by T (thread_of T id) n)) ps (Steps.took T (thread_of T id) (instance_in T.waiting n)) ≡ take_mark ids (taken_by T (thread_of T id) n)
 take_marked T ids ps h s id n d =
     let b = best_is_chosen T d.thread d.instance s d.best in
     let i : instance_in T.waiting n ≡ Some d.instance = ap (instance_in T.waiting) (sym d.number) ∙ b.waits in
     let k = ap (λ o. taken_by T o n) d.there ∙ (ap (taken_by T (Some d.thread)) (sym d.number) ∙ b.taken) in
     let r : Steps.took T (thread_of T id) (instance_in T.waiting n) ≡ reply.Took d.thread.id d.instance (Takes.took T d.thread d.instance) = ap₂ (Steps.took T) d.there i in
     let q = Takes.taken_from (best_of d.thread.mask (queue T (target.Thread d.thread.id))) d.thread in
-    ap₂ (λ x o. mark_after Nothing x (queue_of o) ps) r k
+    ap₂ (λ x o. mark_after Nothing (queue_of o) ps x) r k
     ∙ (ap (λ p. Take (record { number = d.instance.n; signal = d.instance.sig; queue = q; passed = p })) (passes_same ids ps h q) ∙ sym (ap (take_mark ids) k))
 
 marked : (T : Table) (ids : List ℕ) (ps : List Passed) → ((n : ℕ) → times n ps ≡ occurs n ids) → IsSorted T.waiting → DistinctIds T → (e : Entry) → check T e.actor e.event ≡ Ok (Due e.choice)
-    → mark_after (mark_before T e.actor e.event e.choice) (after T e).reply (queue_of (taken_of T e.event e.choice)) ps ≡ mark_of ids T e.actor e.event e.choice
+    → mark_after (mark_before T e.actor e.event e.choice) (queue_of (taken_of T e.event e.choice)) ps (after T e).reply ≡ mark_of ids T e.actor e.event e.choice
 marked T ids ps h s u e d = go e.event e.choice d
   where
     go : (x : Event) (c : Choice) → check T e.actor x ≡ Ok (Due c)
-        → mark_after (mark_before T e.actor x c) (Steps.reply_of T e.actor x c (work_of T (record { actor = e.actor; event = x; choice = c }))) (queue_of (taken_of T x c)) ps ≡ mark_of ids T e.actor x c
+        → mark_after (mark_before T e.actor x c) (queue_of (taken_of T x c)) ps (Steps.reply_of T e.actor x c (work_of T (record { actor = e.actor; event = x; choice = c }))) ≡ mark_of ids T e.actor x c
     go (event.Take id) c q =
         let p = dues T e.actor (event.Take id) c q in
         let m = take_numbered T e.actor id c p.not_quiet p.preferred in
@@ -138,9 +138,10 @@ few_times T es ns gs ps n l id = omega (arith, few_pass T id es, n.passed id, l)
 pub noted_begins : (T : Table) → IsNoted T [] [] [] []
 noted_begins T = record { notes = refl; dying = refl; passed = λ id. refl }
 
-pub noted_goes_on : (k : State) (x : Entry) (ns : List Note) (gs : List ℕ) (ps : List Passed) → IsHistory k → IsNoted (table_of k.start) k.journal ns gs ps → check k.table x.actor x.event ≡ Ok (Due x.choice)
-    → IsNoted (table_of k.start) (k.journal ++ x ∷ []) (ns ++ noted ps (length gs) k.table x ∷ []) (gs ++ (work_of k.table x).dying) (all_bumped (passed_by k.table x.event) ps)
-noted_goes_on k x ns gs ps h n d =
+pub noted_goes_on : (k : State) (x : Entry) (ns : List Note) (gs : List ℕ) (ps qs : List Passed) → IsHistory k → IsNoted (table_of k.start) k.journal ns gs ps → check k.table x.actor x.event ≡ Ok (Due x.choice)
+    → PassOn (passed_by k.table x.event) ps qs
+    → IsNoted (table_of k.start) (k.journal ++ x ∷ []) (ns ++ noted ps (length gs) k.table x ∷ []) (gs ++ (work_of k.table x).dying) qs
+noted_goes_on k x ns gs ps qs h n d more =
     let T = table_of k.start in
     let start = is_start k.start h.good in
     let sorted = waiting_is_sorted T k.table k.journal k.replies start h.replayed in
@@ -151,7 +152,7 @@ noted_goes_on k x ns gs ps h n d =
       notes = ap₂ (λ xs y. xs ++ y ∷ []) n.notes one ∙ sym (all_notes_push T k.table k.journal k.replies x h.replayed);
       dying = ap (λ y. y ++ (work_of k.table x).dying) n.dying ∙ sym (dying_push T k.table k.journal k.replies x h.replayed);
       passed = λ id.
-          times_all id (passed_by k.table x.event) ps
+          more.counts id
           ∙ (ap₂ (λ a b. a + b) (n.passed id) (ap (occurs id) (sym (passed_is k.table x)))
           ∙ (sym (occurs-append id (renamed_by T k.journal) (work_of k.table x).renamed) ∙ ap (occurs id) (sym (renamed_push T k.table k.journal k.replies x h.replayed))));
     }

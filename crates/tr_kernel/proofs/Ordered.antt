@@ -1,6 +1,7 @@
 -- Two takes from one queue, by the notes.
-use Rattle.std.proofs.Common.{◌≡◌, ℕ, zero, suc, ◌+◌, ◌<◌, ◌≤◌, List, [], ◌∷◌, ◌++◌, take, drop, Option, Some, None, refl, sym, ap, ◌∙◌, subst, arith, inl, inr, Bool, true, false, ◌==◌, if◌then◌else◌, append-nil}
-use Rattle.std.proofs.lemmas.Bool.{eq-eqb, eqb-true}
+use Rattle.std.proofs.Common.{◌≡◌, ℕ, zero, suc, ◌+◌, ◌<◌, List, [], ◌∷◌, ◌++◌, take, drop, Option, Some, None, refl, sym, ap, ◌∙◌, subst, arith, inl, inr, Bool, true, false, ◌==◌, if◌then◌else◌, append-nil}
+use Rattle.std.proofs.lemmas.Bool.{eqb-true}
+use Rattle.std.proofs.lemmas.Option.{none-some, same_Some}
 use Rattle.std.specs.Prelude.{slice_get}
 use Rattle.tr_tracee.specs.declared.thread.Thread.{Thread}
 use Rattle.tr_model.specs.declared.events.Choice.{Choice}
@@ -9,7 +10,7 @@ use Rattle.tr_model.specs.declared.events.Event.{Event}
 use Rattle.tr_model.specs.declared.events.Event.TheVariants as event
 use Rattle.tr_model.specs.declared.rows.Target.{Target}
 use Rattle.tr_model.specs.declared.rows.Target.TheVariants as target
-use Rattle.tr_model.specs.Journals.{IsIn, Replay, Taken, occurs, renamed_by, taken, taken_of}
+use Rattle.tr_model.specs.Journals.{IsIn, Taken, occurs, renamed_by, taken, taken_of}
 use Rattle.tr_model.specs.Laws.{PassesOn}
 use Rattle.tr_model.specs.Steps
 use Rattle.tr_model.specs.Steps.{work_of}
@@ -18,6 +19,7 @@ use Rattle.tr_model.specs.Waits.{ready_thread}
 use Rattle.tr_model.proofs.Names.{take_renames_nothing}
 use Rattle.tr_model.proofs.OneFate.{occurs-append}
 use Rattle.tr_model.proofs.Order.{in_order}
+use Rattle.tr_model.proofs.Standing.{occurs-in}
 use Rattle.tr_table.specs.Starts.{table_of}
 use Rattle.tr_kernel.specs.declared.notes.Mark.{Mark}
 use Rattle.tr_kernel.specs.declared.notes.Mark.TheVariants.{Nothing, Stop, Take, Exec}
@@ -26,20 +28,11 @@ use Rattle.tr_kernel.specs.declared.notes.TakenFrom.{TakenFrom}
 use Rattle.tr_kernel.specs.Laws.{TakenInOrder, TakesAt, TwoTakes}
 use Rattle.tr_kernel.specs.Notes.{exec_mark, mark_of, notes_of, passes, shows_stop, stop_mark, take_mark}
 use Rattle.tr_kernel.specs.Positions.{between, table_at}
-use Rattle.tr_kernel.specs.Restarts.{SameQueue, mark_at}
+use Rattle.tr_kernel.specs.Private.{SameQueue, mark_at}
 use Rattle.tr_kernel.specs.States.{IsHistory, State}
 use Rattle.tr_kernel.proofs.Begun.{is_start}
-use Rattle.tr_kernel.proofs.Cuts.{cut, get_take, renamed_next, renamed_split, table_take}
+use Rattle.tr_kernel.proofs.Cuts.{cut, renamed_next, renamed_split, replay_between, table_take}
 use Rattle.tr_kernel.proofs.Noticed.{mark_is, marked_there}
-
-none_entry : (e : Entry) → None ≡ Some e → ⊥
-none_entry e q = cc
-
-some_entry : (x y : Entry) → Some x ≡ Some y → x ≡ y
-some_entry x y e = cc
-
-some_taken : (x y : Taken) → Some x ≡ Some y → x ≡ y
-some_taken x y e = cc
 
 nothing_take : (x : TakenFrom) → Nothing ≡ Take x → ⊥
 nothing_take x e = cc
@@ -81,13 +74,10 @@ mark_takes ids T a (event.TakeAny g) c x q = takes_some ids (taken_of T (event.T
 mark_takes ids T a (event.Exec id) c x q = absurd (execs_no_take (thread_of T id) x q)
 mark_takes ids T a _ c x q = absurd (nothing_take x q)
 
-no_taken : (k : Taken) → None ≡ Some k → ⊥
-no_taken k e = cc
-
 takes_mark : (ids : List ℕ) (T : Table) (a : ℕ) (e : Event) (c : Choice) (k : Taken) → taken_of T e c ≡ Some k → mark_of ids T a e c ≡ Take (as_noted ids k)
 takes_mark ids T a (event.Take id) c k q = ap (take_mark ids) q
 takes_mark ids T a (event.TakeAny g) c k q = ap (take_mark ids) q
-takes_mark ids T a e c k q = absurd (no_taken k q)
+takes_mark ids T a e c k q = absurd (none-some k q)
 
 -- A take at a position
 
@@ -110,7 +100,7 @@ pub takes_at : (T : Table) (es : List Entry) (p : ℕ) (x : TakenFrom) → (t : 
 takes_at T es p x t = subst (λ n. TakesAt T es n t.kind) (sym t.position) (t.entry, t.found, t.took)
 
 pub noted_take : (T : Table) (es : List Entry) (p : ℕ) (k : Taken) → TakesAt T es p k → (x : TakenFrom) × (mark_at (notes_of T es) p ≡ Take x) × ((t : TakeThere T es p x) × (t.kind ≡ k))
-noted_take T es zero k t = absurd (none_entry t.0 t.1)
+noted_take T es zero k t = absurd (none-some t.0 t.1)
 noted_take T es (suc n) k t =
     let x = as_noted (renamed_by T (take n es)) k in
     (x, mark_is T es n t.0 t.1 ∙ takes_mark (renamed_by T (take n es)) (table_at T es n) t.0.actor t.0.event t.0.choice k t.2, (record { place = n; position = refl; entry = t.0; found = t.1; kind = k; took = t.2; noted = refl }, refl))
@@ -133,18 +123,9 @@ passed_between T es i j e k l q t id =
     take_take (x ∷ es) zero (suc j) l = refl
     take_take (x ∷ es) (suc i) (suc j) l = ap (λ ys. x ∷ ys) (take_take es i j (omega arith))
 
-in_occurs : (n : ℕ) (xs : List ℕ) → IsIn n xs → 1 ≤ occurs n xs
-in_occurs n [] m = absurd m
-in_occurs n (x ∷ xs) (inl e) = go (x == n) (eq-eqb x n e)
-  where
-    go : (b : Bool) → b ≡ true → 1 ≤ (if b then 1 else 0) + occurs n xs
-    go true h = omega arith
-    go false h = absurd cc
-in_occurs n (x ∷ xs) (inr m) = omega (arith, in_occurs n xs m)
-
-occurs_in : (n : ℕ) (xs : List ℕ) → (IsIn n xs → ⊥) → occurs n xs ≡ 0
-occurs_in n [] m = refl
-occurs_in n (x ∷ xs) m = go (x == n) refl (occurs_in n xs (λ i. m (inr i)))
+no_occurs : (n : ℕ) (xs : List ℕ) → (IsIn n xs → ⊥) → occurs n xs ≡ 0
+no_occurs n [] m = refl
+no_occurs n (x ∷ xs) m = go (x == n) refl (no_occurs n xs (λ i. m (inr i)))
   where
     go : (b : Bool) → (x == n) ≡ b → occurs n xs ≡ 0 → (if b then 1 else 0) + occurs n xs ≡ 0
     go true h r = absurd (m (inl (eqb-true x n h)))
@@ -154,12 +135,12 @@ occurs_in n (x ∷ xs) m = go (x == n) refl (occurs_in n xs (λ i. m (inr i)))
 keeps_by : (T : Table) (es : List Entry) (i j : ℕ) (e : Entry) (k : Taken) → i < j → slice_get es i ≡ Some e → taken (table_at T es i) e ≡ Some k
     → (q : Target) → passes (renamed_by T (take i es)) q ≡ passes (renamed_by T (take j es)) q → PassesOn q (renamed_by (table_at T es (suc i)) (drop (suc i) (take j es))) → ⊥
 keeps_by T es i j e k l f t (target.Group g) p m = m
-keeps_by T es i j e k l f t (target.Thread id) p m = omega (arith, passed_between T es i j e k l f t id, in_occurs id _ m, p)
+keeps_by T es i j e k l f t (target.Thread id) p m = omega (arith, passed_between T es i j e k l f t id, occurs-in id _ m, p)
 
 by_keeping : (T : Table) (es : List Entry) (i j : ℕ) (e : Entry) (k : Taken) → i < j → slice_get es i ≡ Some e → taken (table_at T es i) e ≡ Some k
     → (q : Target) → (PassesOn q (renamed_by (table_at T es (suc i)) (drop (suc i) (take j es))) → ⊥) → passes (renamed_by T (take i es)) q ≡ passes (renamed_by T (take j es)) q
 by_keeping T es i j e k l f t (target.Group g) m = refl
-by_keeping T es i j e k l f t (target.Thread id) m = omega (arith, passed_between T es i j e k l f t id, occurs_in id _ m)
+by_keeping T es i j e k l f t (target.Thread id) m = omega (arith, passed_between T es i j e k l f t id, no_occurs id _ m)
 
 -- The law
 
@@ -185,8 +166,8 @@ two_by_notes T es i j x y m n l s =
     )
 
 pub notes_of_two : (T : Table) (es : List Entry) (i j : ℕ) → TwoTakes T es i j → (i < j) × ((x y : TakenFrom) × (mark_at (notes_of T es) i ≡ Take x) × (mark_at (notes_of T es) j ≡ Take y) × SameQueue x y)
-notes_of_two T es zero j w = absurd (none_entry w.1.2.0 w.1.2.1)
-notes_of_two T es (suc i) zero w = absurd (none_entry w.1.3.0 w.1.3.1)
+notes_of_two T es zero j w = absurd (none-some w.1.2.0 w.1.2.1)
+notes_of_two T es (suc i) zero w = absurd (none-some w.1.3.0 w.1.3.1)
 notes_of_two T es (suc i) (suc j) w =
     let k = w.1.0 in
     let l = w.1.1 in
@@ -207,20 +188,18 @@ notes_of_two T es (suc i) (suc j) w =
     )
 
 same_taken : (T : Table) (es : List Entry) (p : ℕ) (x y : Taken) → TakesAt T es (suc p) x → TakesAt T es (suc p) y → x ≡ y
-same_taken T es p x y u v = some_taken x y (sym u.2 ∙ (ap (taken (table_at T es p)) (some_entry u.0 v.0 (sym u.1 ∙ v.1)) ∙ v.2))
+same_taken T es p x y u v = same_Some x y (sym u.2 ∙ (ap (taken (table_at T es p)) (same_Some u.0 v.0 (sym u.1 ∙ v.1)) ∙ v.2))
 
 pub taken_in_order : (k : State) → IsHistory k → (i j : ℕ) → TwoTakes (table_of k.start) k.journal i j → TakenInOrder (table_of k.start) k.journal i j
-taken_in_order k h zero j w m n a b = absurd (none_entry a.0 a.1)
-taken_in_order k h (suc i) zero w m n a b = absurd (none_entry b.0 b.1)
+taken_in_order k h zero j w m n a b = absurd (none-some a.0 a.1)
+taken_in_order k h (suc i) zero w m n a b = absurd (none-some b.0 b.1)
 taken_in_order k h (suc i) (suc j) w m n a b =
     let T = table_of k.start in
     let es = k.journal in
     let less : i < j = omega (arith, w.0) in
     let first = cut i T k.table es k.replies a.0 h.replayed a.1 in
     let second = cut j T k.table es k.replies b.0 h.replayed b.1 in
-    let inner = cut i T (table_at T es j) (take j es) (take j k.replies) a.0 second.earlier (get_take es j i less ∙ a.1) in
-    let between_them : Replay (table_at T es (suc i)) (drop (suc i) (take j es)) (drop (suc i) (take j k.replies)) (table_at T es j)
-    = subst (λ M. Replay M (drop (suc i) (take j es)) (drop (suc i) (take j k.replies)) (table_at T es j)) (table_take T es j (suc i) (omega arith)) inner.later in
+    let between_them = replay_between i j T es k.replies a.0 second.earlier less a.1 in
     let x = same_taken T es i w.1.0 m w.1.2 a in
     let y = same_taken T es j w.1.1 n w.1.3 b in
     let signal : m.signal ≡ n.signal = ap (λ (z : Taken). z.signal) (sym x) ∙ (w.1.4 ∙ ap (λ (z : Taken). z.signal) y) in

@@ -1,5 +1,6 @@
 -- What a check refuses is a cause, and the only one.
 use Rattle.std.proofs.Common.{◌≡◌, ◌<◌, ℕ, Some, Result, Ok, Err, length, refl, sym, ap, ◌∙◌}
+use Rattle.std.proofs.lemmas.Option.{same_Some}
 use Rattle.std.specs.Prelude.{IfErr}
 use Rattle.tr_model.specs.declared.checked.Checked.TheVariants.{Due}
 use Rattle.tr_model.specs.declared.events.Choice.{Choice}
@@ -27,11 +28,8 @@ refusal k a e Unmodelled h = refusals k.table a e Unmodelled h
 refusal k a e ThreadedExec h = refusals k.table a e ThreadedExec h
 refusal k a e JournalFull h = absurd ((is_cause k.table a e JournalFull (refusals k.table a e JournalFull h)).full refl)
 
-some_same : (x y : Refusal) → Some x ≡ Some y → x ≡ y
-some_same x y e = cc
-
 pub only_cause : (k : State) (a : ℕ) (e : Event) (found : Refusal) → check k.table a e ≡ Err found → (why : Refusal) → cause_of k.table a e ≡ Some why → ◌≡◌ {A = Result Reply Refusal} (Err found) (Err why)
-only_cause k a e found h why r = ap (λ x. Err x) (some_same found why (sym (refusals k.table a e found h) ∙ r))
+only_cause k a e found h why r = ap (λ x. Err x) (same_Some found why (sym (refusals k.table a e found h) ∙ r))
 
 -- want of memory comes where an entry is due and the journal isn't full
 pub want_of_memory : {A : Type 0} (r : Result A Refusal) (k : State) (a : ℕ) (e : Event) (c : Choice) → check k.table a e ≡ Ok (Due c) → length k.journal < k.table.entries → IfErr r (λ why. why ≡ NoMemory) → IfErr r (λ why. IsRefusal k a e why)

@@ -1,6 +1,7 @@
 -- A restart between two stops, by the notes.
-use Rattle.std.proofs.Common.{◌≡◌, ◌≢◌, ℕ, zero, suc, ◌+◌, ◌-◌, ◌<◌, ◌≤◌, List, [], ◌∷◌, length, take, drop, get_or, Option, Some, None, refl, sym, ap, ap₂, ◌∙◌, subst, arith, ◌⊎◌, inl, inr, ◌↔◌, Bool, true, false, true≢false, not, ◌&&◌, ◌||◌, ◌==◌, if◌then◌else◌}
+use Rattle.std.proofs.Common.{◌≡◌, ◌≢◌, ℕ, zero, suc, ◌+◌, ◌-◌, ◌<◌, ◌≤◌, List, [], ◌∷◌, length, take, drop, get_or, Option, Some, None, refl, sym, ap, ap₂, ◌∙◌, subst, arith, length-take, ◌⊎◌, inl, inr, ◌↔◌, Bool, true, false, true≢false, not, ◌&&◌, ◌||◌, ◌==◌, if◌then◌else◌}
 use Rattle.std.proofs.lemmas.Bool.{and_parts, eq-eqb, eqb-true, eqb-false, ne_eqb}
+use Rattle.std.proofs.lemmas.Option.{none-some, same_Some, slice_get_read, slice_get_within}
 use Rattle.std.specs.List.{list_any}
 use Rattle.std.specs.Prelude.{IfSome, IsSome, slice_get}
 use Rattle.tr_wait.specs.declared.status.Status.{Status}
@@ -11,7 +12,7 @@ use Rattle.tr_model.specs.declared.events.Choice.{Choice}
 use Rattle.tr_model.specs.declared.events.Entry.{Entry}
 use Rattle.tr_model.specs.declared.events.Event.{Event}
 use Rattle.tr_model.specs.declared.events.Event.TheVariants as event
-use Rattle.tr_model.specs.Journals.{IsIn, Replay, Taken, renamed_by, taken_of}
+use Rattle.tr_model.specs.Journals.{IsIn, Taken, renamed_by, taken_of}
 use Rattle.tr_model.specs.Laws.{ConsumesStop, IsRestart, IsStopStatus, Restarts, SomeRestarts}
 use Rattle.tr_model.specs.Steps.{Admits, number, work_of}
 use Rattle.tr_model.specs.Tables.{Table, thread_of}
@@ -26,17 +27,11 @@ use Rattle.tr_kernel.specs.declared.notes.TakenFrom.{TakenFrom}
 use Rattle.tr_kernel.specs.Laws.{RestartBetween, RestartsAt, StopsAt, TwoStops}
 use Rattle.tr_kernel.specs.Notes.{dying_by, exec_mark, is_stop_status, mark_of, notes_of, shows_stop, stop_mark, take_mark}
 use Rattle.tr_kernel.specs.Positions.{entry_at, table_at}
-use Rattle.tr_kernel.specs.Restarts.{IsRestartAt, deaths_to, is_exec_in, is_restart, mark_at, restarts_at, restarts_here}
+use Rattle.tr_kernel.specs.Private.{IsRestartAt, dying_at, is_exec_in, is_restart, mark_at, restarts_at, restarts_here}
 use Rattle.tr_kernel.specs.States.{IsHistory, State}
 use Rattle.tr_kernel.proofs.Begun.{is_start}
-use Rattle.tr_kernel.proofs.Cuts.{cut, dying_there, get_drop, get_take, some_there, table_drop, table_take, there}
+use Rattle.tr_kernel.proofs.Cuts.{cut, dying_there, get_drop, get_take, replay_between, some_there, table_drop, table_take}
 use Rattle.tr_kernel.proofs.Noticed.{deaths_after, deaths_is, mark_is, marked_there, note_is}
-
-none_entry : (e : Entry) → None ≡ Some e → ⊥
-none_entry e q = cc
-
-some_entry : (x y : Entry) → Some x ≡ Some y → x ≡ y
-some_entry x y e = cc
 
 nothing_stop : (s : Stopped) → Nothing ≡ Stop s → ⊥
 nothing_stop s e = cc
@@ -142,7 +137,7 @@ stops_at : (T : Table) (es : List Entry) (p : ℕ) (s : Stopped) → (x : StopTh
 stops_at T es p s x = subst (λ n. StopsAt T es n x.entry x.thread) (sym x.position) (x.found, x.stops)
 
 noted_stop : (T : Table) (es : List Entry) (p : ℕ) (e : Entry) (t : Thread) → StopsAt T es p e t → mark_at (notes_of T es) p ≡ Stop (as_stopped t)
-noted_stop T es zero e t x = absurd (none_entry e x.0)
+noted_stop T es zero e t x = absurd (none-some e x.0)
 noted_stop T es (suc n) e t x = mark_is T es n e x.0 ∙ stops_mark (renamed_by T (take n es)) (table_at T es n) e t x.1
 
 pub stops_by_notes : (k : State) → IsHistory k → (i j : ℕ) (s r : Stopped) → mark_at (notes_of (table_of k.start) k.journal) i ≡ Stop s → mark_at (notes_of (table_of k.start) k.journal) j ≡ Stop r → i < j → s.thread ≡ r.thread → TwoStops (table_of k.start) k.journal i j
@@ -167,15 +162,9 @@ exec_is id g T x = (λ q. let p = and_parts (not (x == id)) (is_exec_in g (exec_
     found None q = absurd (true≢false (sym q))
     found (Some t) q = (t, refl, eqb-true t.group g q)
 
-    none : (t : Thread) → None ≡ Some t → ⊥
-    none t q = cc
-
-    same : (t u : Thread) → Some t ≡ Some u → t ≡ u
-    same t u q = cc
-
     both : (x ≢ id) → (o : Option Thread) → (t : Thread) × (o ≡ Some t) × (t.group ≡ g) → (not (x == id) && is_exec_in g (exec_mark o)) ≡ true
-    both d None h = absurd (none h.0 h.1)
-    both d (Some t) h = ap₂ (λ a b. not a && b) (ne_eqb x id d) (eq-eqb t.group g (ap (λ (z : Thread). z.group) (same t h.0 h.1) ∙ h.2))
+    both d None h = absurd (none-some h.0 h.1)
+    both d (Some t) h = ap₂ (λ a b. not a && b) (ne_eqb x id d) (eq-eqb t.group g (ap (λ (z : Thread). z.group) (same_Some t h.0 h.1) ∙ h.2))
 
 same_number : (m n : ℕ) → ((m == n) ≡ true) ↔ (m ≡ n)
 same_number m n = (eqb-true m n, eq-eqb m n)
@@ -206,10 +195,10 @@ pub restarts_is : (s : Stopped) (a : ℕ) (T : Table) (es : List Entry) (k : ℕ
 restarts_is s a T es k e q =
     let ids = renamed_by T (take k es) in
     let M = table_at T es k in
-    let gs : take (deaths_to (notes_of T es) (suc k) - deaths_to (notes_of T es) k) (drop (deaths_to (notes_of T es) k) (dying_by T es)) ≡ (work_of M e).dying
-    = ap₂ (λ n d. take n (drop d (dying_by T es))) (deaths_after T es k e q) (deaths_is T es k (let l = there es k e q in omega arith)) ∙ dying_there T es k e q in
+    let gs : dying_at (notes_of T es) (dying_by T es) k ≡ (work_of M e).dying
+    = ap₂ (λ n d. take n (drop d (dying_by T es))) (deaths_after T es k e q) (deaths_is T es k (let l = slice_get_within es k e q in omega arith)) ∙ dying_there T es k e q in
     let same : restarts_at s a es (notes_of T es) (dying_by T es) k ≡ (is_restart s a e.actor e.event (mark_of ids M e.actor e.event e.choice) || list_any (λ h. h == s.group) (work_of M e).dying)
-    = ap₂ (λ o n. restarts_here s a o n (take (deaths_to (notes_of T es) (suc k) - deaths_to (notes_of T es) k) (drop (deaths_to (notes_of T es) k) (dying_by T es)))) q (note_is T es k e q) ∙ ap (λ ys. is_restart s a e.actor e.event (mark_of ids M e.actor e.event e.choice) || list_any (λ h. h == s.group) ys) gs in
+    = ap₂ (λ o n. restarts_here s a o n (dying_at (notes_of T es) (dying_by T es) k)) q (note_is T es k e q) ∙ ap (λ ys. is_restart s a e.actor e.event (mark_of ids M e.actor e.event e.choice) || list_any (λ h. h == s.group) ys) gs in
     rw same (either_is _ _ (IsRestart s.thread a s.group M e.actor e.event) (IsIn s.group (work_of M e).dying) (restart_is s a ids M e.actor e.event e.choice) (any_in s.group (work_of M e).dying))
 
 -- The law
@@ -220,23 +209,18 @@ some_place id a g T (e ∷ es) (inl h) = (0, e, refl, h)
 some_place id a g T (e ∷ es) (inr h) = let r = some_place id a g (work_of T e).table es h in (suc r.0, r.1, r.2, r.3)
 
 taken_short : (es : List Entry) (n k : ℕ) (e : Entry) → slice_get (take n es) k ≡ Some e → k < n
-taken_short es zero k e q = absurd (none_entry e q)
-taken_short [] (suc n) k e q = absurd (none_entry e q)
-taken_short (x ∷ es) (suc n) zero e q = omega arith
-taken_short (x ∷ es) (suc n) (suc k) e q = omega (arith, taken_short es n k e q)
+taken_short es n k e q = omega (arith, slice_get_within (take n es) k e q, length-take n es)
 
 pub restart_there : (k : State) → IsHistory k → (i j : ℕ) (s : Stopped) → mark_at (notes_of (table_of k.start) k.journal) i ≡ Stop s → TwoStops (table_of k.start) k.journal i j → (n : ℕ) × IsRestartAt (table_of k.start) k.journal i j s n
 restart_there k h zero j s m w = absurd (nothing_stop s m)
-restart_there k h (suc i) zero s m (l, (e, f, t, u, a, b, same)) = absurd (none_entry f b.0)
+restart_there k h (suc i) zero s m (l, (e, f, t, u, a, b, same)) = absurd (none-some f b.0)
 restart_there k h (suc i) (suc j) s m (l, (e, f, t, u, a, b, same)) =
     let T = table_of k.start in
     let es = k.journal in
     let less : i < j = omega (arith, l) in
     let first = cut i T k.table es k.replies e h.replayed a.0 in
     let second = cut j T k.table es k.replies f h.replayed b.0 in
-    let inner = cut i T (table_at T es j) (take j es) (take j k.replies) e second.earlier (get_take es j i less ∙ a.0) in
-    let between_them : Replay (table_at T es (suc i)) (drop (suc i) (take j es)) (drop (suc i) (take j k.replies)) (table_at T es j)
-    = subst (λ M. Replay M (drop (suc i) (take j es)) (drop (suc i) (take j k.replies)) (table_at T es j)) (table_take T es j (suc i) (omega arith)) inner.later in
+    let between_them = replay_between i j T es k.replies e second.earlier less a.0 in
     let law = restart_stands T (table_at T es i) (table_at T es (suc i)) (table_at T es j) (take i es) (drop (suc i) (take j es)) (take i k.replies) (drop (suc i) (take j k.replies)) e f first.reply t u (is_start k.start h.good) first.earlier first.step a.1 between_them b.1 same in
     let p = some_place t.id e.actor t.group (table_at T es (suc i)) (drop (suc i) (take j es)) law in
     let place = suc i + p.0 in
@@ -254,7 +238,7 @@ restart_there k h (suc i) (suc j) s m (l, (e, f, t, u, a, b, same)) =
           p.1,
           found,
           subst (λ (z : Stopped). Restarts z.thread x.actor z.group (table_at T es place) p.1) (sym stopped)
-              (subst (λ (y : Entry). Restarts t.id y.actor t.group (table_at T es place) p.1) (some_entry e x (sym a.0 ∙ q)) (subst (λ M. Restarts t.id e.actor t.group M p.1) table p.3)),
+              (subst (λ (y : Entry). Restarts t.id y.actor t.group (table_at T es place) p.1) (same_Some e x (sym a.0 ∙ q)) (subst (λ M. Restarts t.id e.actor t.group M p.1) table p.3)),
         );
       },
     )
@@ -271,12 +255,7 @@ restart_lies_between k i j s n m r = record {
 
 entry_found : (es : List Entry) (i : ℕ) (x : Entry) → 1 ≤ i → i ≤ length es → x ≡ get_or es (i - 1) x → entry_at es i ≡ Some x
 entry_found es zero x l m q = absurd (omega arith)
-entry_found es (suc n) x l m q = got es n x (omega arith) (q ∙ ap (λ k. get_or es k x) (omega arith))
-  where
-    got : (es : List Entry) (n : ℕ) (x : Entry) → n < length es → x ≡ get_or es n x → slice_get es n ≡ Some x
-    got [] n x l q = absurd (omega arith)
-    got (y ∷ es) zero x l q = ap Some (sym q)
-    got (y ∷ es) (suc n) x l q = got es n x (omega arith) q
+entry_found es (suc n) x l m q = slice_get_read es (length es) n x refl (omega arith) (q ∙ ap (λ k. get_or es k x) (omega arith))
 
 pub restart_found : (T : Table) (es : List Entry) (i j p : ℕ) (s : Stopped) (x : Entry) → 1 ≤ i → i ≤ p → p < j - 1 → j ≤ length es → x ≡ get_or es (i - 1) x
     → restarts_at s x.actor es (notes_of T es) (dying_by T es) p ≡ true → IsRestartAt T es i j s (p + 1)
@@ -287,7 +266,7 @@ restart_found T es i j p s x one l m n q r =
     record {
       later = omega arith;
       earlier = omega arith;
-      restarts = λ y h. subst (λ k. RestartsAt T es k s.thread y.actor s.group) next (e.0, e.1, subst (λ (z : Entry). Restarts s.thread z.actor s.group (table_at T es p) e.0) (some_entry x y (sym at ∙ h)) ((restarts_is s x.actor T es p e.0 e.1).0 r));
+      restarts = λ y h. subst (λ k. RestartsAt T es k s.thread y.actor s.group) next (e.0, e.1, subst (λ (z : Entry). Restarts s.thread z.actor s.group (table_at T es p) e.0) (same_Some x y (sym at ∙ h)) ((restarts_is s x.actor T es p e.0 e.1).0 r));
     }
 
 pub restart_none : (T : Table) (es : List Entry) (i j : ℕ) (s : Stopped) (x : Entry) → 1 ≤ i → i < j → j ≤ length es → x ≡ get_or es (i - 1) x
@@ -314,7 +293,7 @@ pub stop_bounds : (k : State) → IsHistory k → (i j : ℕ) (s r : Stopped) �
 stop_bounds k h i j s r m n =
     let a = stop_there k h i s m in
     let b = stop_there k h j r n in
-    (omega (arith, a.position), omega (arith, b.position, there k.journal b.place b.entry b.found))
+    (omega (arith, a.position), omega (arith, b.position, slice_get_within k.journal b.place b.entry b.found))
 
 pub some_restart : (k : State) → IsHistory k → (i j : ℕ) (s r : Stopped) (o : Option ℕ) → mark_at (notes_of (table_of k.start) k.journal) i ≡ Stop s → mark_at (notes_of (table_of k.start) k.journal) j ≡ Stop r → i < j → s.thread ≡ r.thread
     → (o ≡ None → (n : ℕ) → IsRestartAt (table_of k.start) k.journal i j s n → ⊥) → IsSome o ↔ TwoStops (table_of k.start) k.journal i j

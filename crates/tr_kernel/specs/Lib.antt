@@ -2,5 +2,5 @@ pub mod Fates
 pub mod Laws
 pub mod Notes
 pub mod Positions
-pub mod Restarts
+pub mod Private
 pub mod States

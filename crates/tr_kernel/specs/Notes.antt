@@ -1,24 +1,20 @@
--- What each entry leaves in the notes beside the journal, from which the laws answer.
-use Rattle.std.specs.Prelude.{◌≡◌, ℕ, ◌+◌, ◌==◌, List, [], ◌∷◌, ◌++◌, length, Bool, true, false, not, ◌&&◌, Option, Some, None, if◌then◌else◌}
+-- What each entry leaves in the notes beside the journal, from which the laws answer: the kernel's invariant cites these,
+-- and no public contract.
+use Rattle.std.specs.Prelude.{◌≡◌, ℕ, ◌+◌, ◌==◌, List, [], ◌∷◌, ◌++◌, length, Bool, true, false, Option, Some, None, if◌then◌else◌}
 use Rattle.tr_wait.specs.declared.status.Status.{Status}
 use Rattle.tr_wait.specs.declared.status.Status.TheVariants as status
 use Rattle.tr_tracee.specs.declared.thread.Report.{Report}
 use Rattle.tr_tracee.specs.declared.thread.Thread.{Thread}
-use Rattle.tr_tracee.specs.Lives.{is_execing}
-use Rattle.tr_tracee.specs.Threads.{is_leader}
 use Rattle.tr_model.specs.declared.events.Choice.{Choice}
 use Rattle.tr_model.specs.declared.events.Entry.{Entry}
 use Rattle.tr_model.specs.declared.events.Event.{Event}
 use Rattle.tr_model.specs.declared.events.Event.TheVariants as event
-use Rattle.tr_model.specs.declared.replies.Reply.{Reply}
-use Rattle.tr_model.specs.declared.replies.Reply.TheVariants as reply
 use Rattle.tr_model.specs.declared.rows.Target.{Target}
 use Rattle.tr_model.specs.declared.rows.Target.TheVariants as target
-use Rattle.tr_model.specs.Journals.{Taken, occurs, renamed_by, taken, taken_of}
-use Rattle.tr_model.specs.Steps.{after, number, work_of}
+use Rattle.tr_model.specs.Journals.{Taken, occurs, renamed_by, taken_of}
+use Rattle.tr_model.specs.Steps.{number, work_of}
 use Rattle.tr_model.specs.Tables.{Table, thread_of}
 use Rattle.tr_model.specs.Waits.{ready_thread}
-use Rattle.tr_signals.specs.Takes.{queue_of}
 use Rattle.tr_kernel.specs.declared.notes.Mark.{Mark}
 use Rattle.tr_kernel.specs.declared.notes.Mark.TheVariants.{Nothing, Stop, Take, Exec}
 use Rattle.tr_kernel.specs.declared.notes.Note.{Note}
@@ -33,28 +29,22 @@ is_stop_status (status.Killed signal) = false
 is_stop_status status.Continued = false
 is_stop_status _ = true
 
+-- a report is of a ptrace-stop
 abbrev pub shows_stop : Option Report → Bool
 shows_stop None = false
 shows_stop (Some r) = is_stop_status r.status
 
+-- the mark of a tracer's wait for this thread
 abbrev pub stop_mark : Option Thread → Mark
 stop_mark None = Nothing
 stop_mark (Some t) = if shows_stop t.report then Stop (record { thread = t.id; group = t.group }) else Nothing
 
 -- Execve
 
+-- the mark of an execve(2) by this thread
 abbrev pub exec_mark : Option Thread → Mark
 exec_mark None = Nothing
 exec_mark (Some t) = Exec t.group
-
--- the id that a finish gives to another thread: the leader's, which is the group's
-abbrev pub passed_id : Option Thread → List ℕ
-passed_id None = []
-passed_id (Some t) = if is_execing t.life && not (is_leader t) then t.group ∷ [] else []
-
-abbrev pub passed_by : Table → Event → List ℕ
-passed_by T (event.Finish id) = passed_id (thread_of T id)
-passed_by T _ = []
 
 -- Takes
 
@@ -63,6 +53,7 @@ abbrev pub passes : List ℕ → Target → ℕ
 passes ids (target.Thread id) = occurs id ids
 passes ids (target.Group g) = 0
 
+-- the mark of a take of this, after these ids have passed on
 abbrev pub take_mark : List ℕ → Option Taken → Mark
 take_mark ids None = Nothing
 take_mark ids (Some k) = Take (record { number = k.number; signal = k.signal; queue = k.queue; passed = passes ids k.queue })
@@ -77,6 +68,7 @@ mark_of ids T a (event.TakeAny g) c = take_mark ids (taken_of T (event.TakeAny g
 mark_of ids T a (event.Exec id) c = exec_mark (thread_of T id)
 mark_of ids T a _ c = Nothing
 
+-- there is a group among these
 abbrev pub is_some_group : List ℕ → Bool
 is_some_group [] = false
 is_some_group (g ∷ gs) = true
@@ -87,12 +79,14 @@ note_of ids deaths T e =
     let w = work_of T e in
     record { mark = mark_of ids T e.actor e.event e.choice; killed = is_some_group w.killed; deaths = deaths + length w.dying }
 
+-- the notes of these entries, after these ids have passed on and so many deaths
 abbrev pub notes_from : List ℕ → ℕ → Table → List Entry → List Note
 notes_from ids deaths T [] = []
 notes_from ids deaths T (e ∷ es) =
     let w = work_of T e in
     note_of ids deaths T e ∷ notes_from (ids ++ w.renamed) (deaths + length w.dying) w.table es
 
+-- the notes of a journal, from its first table on
 abbrev pub notes_of : Table → List Entry → List Note
 notes_of T es = notes_from [] 0 T es
 
@@ -106,47 +100,8 @@ abbrev pub times : ℕ → List Passed → ℕ
 times id [] = 0
 times id (p ∷ ps) = if p.id == id then p.times else times id ps
 
--- with the id once more
-abbrev pub bumped : ℕ → List Passed → List Passed
-bumped id [] = record { id = id; times = 1 } ∷ []
-bumped id (p ∷ ps) = if p.id == id then record { id = p.id; times = p.times + 1 } ∷ ps else p ∷ bumped id ps
-
-abbrev pub all_bumped : List ℕ → List Passed → List Passed
-all_bumped [] ps = ps
-all_bumped (id ∷ ids) ps = all_bumped ids (bumped id ps)
-
 -- The notes of a journal: one of each entry, all groups whose death began, and how often each id has passed on.
 pub record IsNoted (T : Table) (es : List Entry) (ns : List Note) (gs : List ℕ) (ps : List Passed) : Type 0 where
   pub notes : ns ≡ notes_of T es
   pub dying : gs ≡ dying_by T es
   pub passed : (id : ℕ) → times id ps ≡ occurs id (renamed_by T es)
-
--- What the code notes of an entry
-
--- before the step
-abbrev pub mark_before : Table → ℕ → Event → Choice → Mark
-mark_before T a (event.Wait which) c = stop_mark (ready_thread T a which (number c.report))
-mark_before T a (event.Exec id) c = exec_mark (thread_of T id)
-mark_before T a _ c = Nothing
-
-abbrev pub passes_in : List Passed → Target → ℕ
-passes_in ps (target.Thread id) = times id ps
-passes_in ps (target.Group g) = 0
-
-abbrev pub took_mark : Mark → Target → List Passed → Reply → Mark
-took_mark m q ps (reply.Took id i did) = Take (record { number = i.n; signal = i.sig; queue = q; passed = passes_in ps q })
-took_mark m q ps _ = m
-
--- after it, by its reply and the queue that it took from
-abbrev pub mark_after : Mark → Reply → Option Target → List Passed → Mark
-mark_after m r None ps = m
-mark_after m r (Some q) ps = took_mark m q ps r
-
-abbrev pub noted : List Passed → ℕ → Table → Entry → Note
-noted ps deaths T e =
-    let w = work_of T e in
-    record {
-      mark = mark_after (mark_before T e.actor e.event e.choice) (after T e).reply (queue_of (taken T e)) ps;
-      killed = is_some_group w.killed;
-      deaths = deaths + length w.dying;
-    }

@@ -2,9 +2,9 @@ ghost use Rattle.std.specs.Prelude.{◌≡◌, ◌∷◌, ◌++◌, ◌+◌, ◌
 ghost use Rattle.tr_model.specs.declared.checked.Checked.TheVariants.{Due};
 ghost use Rattle.tr_model.specs.Preferred.{check};
 ghost use Rattle.tr_model.specs.Steps.{after, work_of};
-ghost use Rattle.tr_kernel.specs.Fates.{fates_after};
 ghost use Rattle.tr_kernel.specs.Laws.{report_of};
-ghost use Rattle.tr_kernel.specs.Notes.{all_bumped, noted, passed_by, times};
+ghost use Rattle.tr_kernel.specs.Notes.{times};
+ghost use Rattle.tr_kernel.specs.Private.{PassOn, fates_after, noted, passed_by};
 ghost use Rattle.tr_kernel.specs.States.{AcceptsFew};
 
 use crate::events::change;
@@ -69,7 +69,7 @@ pub(crate) fn write_entry(
     ensures fates { OnOk result (fates.new.items ≡ fates_after fates.old.items (after table.old.table (record { actor = actor; event = event.now; choice = choice.now })).work) }
     ensures notes { OnOk result (notes.new.list.items ≡ notes.old.list.items ++ noted notes.old.passed.items (length notes.old.dying.items) table.old.table (record { actor = actor; event = event.now; choice = choice.now }) ∷ []) }
     ensures dying { OnOk result (notes.new.dying.items ≡ notes.old.dying.items ++ (work_of table.old.table (record { actor = actor; event = event.now; choice = choice.now })).dying) }
-    ensures passed { OnOk result (notes.new.passed.items ≡ all_bumped (passed_by table.old.table event.now) notes.old.passed.items) }
+    ensures passed { OnOk result (PassOn (passed_by table.old.table event.now) notes.old.passed.items notes.new.passed.items) }
     ensures err_table { OnErr result (table.new.table ≡ table.old.table) }
     ensures err_journal { OnErr result (journal.new.items ≡ journal.old.items) }
     ensures err_replies { OnErr result (replies.new.items ≡ replies.old.items) }

@@ -1,14 +1,13 @@
 ghost use Rattle.std.specs.Prelude.{◌≡◌, ◌++◌, ◌+◌, ◌≤◌, ◌<◌, ◌-◌, ◌∷◌, [], None, replicate, slice_get, vec_len, vec_capacity};
 ghost use Rattle.tr_model.specs.declared.fates.Fate.TheVariants.{Pending};
 ghost use Rattle.tr_model.specs.Journals.{same_fate};
-ghost use Rattle.tr_kernel.specs.Fates.{all_noted, count_of, noted, tally};
+ghost use Rattle.tr_kernel.specs.Private.{count_of, ending_noted, endings_noted, tally};
 
 use tr_model::{Ending, Fate, Totals};
 
 // The fates of accepted numbers: number n at place n - 1.
 
 /// Appends this many accepted numbers, whose fate is open.
-#[tactic(auto, using(crate::proofs::Noted::replicate_more))]
 pub(crate) fn accept(fates: &mut Vec<Fate>, more: usize)
     requires { vec_len fates.old + more ≤ vec_capacity fates.old }
     ensures { fates.new.items ≡ fates.old.items ++ replicate more Pending }
@@ -20,7 +19,7 @@ pub(crate) fn accept(fates: &mut Vec<Fate>, more: usize)
 
 /// Writes down what ended.
 pub(crate) fn note_all(fates: &mut [Fate], ended: &[Ending])
-    ensures { fates.new ≡ all_noted ended.now fates.old }
+    ensures { fates.new ≡ endings_noted ended.now fates.old }
 {
     for ending in ended {
         note(fates, ending);
@@ -28,7 +27,7 @@ pub(crate) fn note_all(fates: &mut [Fate], ended: &[Ending])
 }
 
 fn note(fates: &mut [Fate], ending: &Ending)
-    ensures { fates.new ≡ noted 1 ending.now fates.old }
+    ensures { fates.new ≡ ending_noted 1 ending.now fates.old }
 {
     let place = ending.number as usize;
     if 1 <= place && place <= fates.len() && same_fate(Fate::Pending, fates[place - 1]) {

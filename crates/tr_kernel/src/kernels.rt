@@ -9,7 +9,7 @@ ghost use Rattle.tr_model.specs.Preferred.{check};
 ghost use Rattle.tr_table.specs.Starts.{is_good, table_of};
 ghost use Rattle.tr_kernel.specs.Laws.{KillsAt, RaisedBefore, WaitsAt, consumed_at};
 ghost use Rattle.tr_kernel.specs.Notes.{notes_of};
-ghost use Rattle.tr_kernel.specs.Restarts.{IsRestartAt, mark_at};
+ghost use Rattle.tr_kernel.specs.Private.{IsRestartAt, mark_at};
 ghost use Rattle.tr_kernel.specs.States.{AcceptsFew, IsDue, IsEntered, IsHistory, IsQuiet, IsRefusal, opened};
 
 use crate::entries::{report_of, write_entry};

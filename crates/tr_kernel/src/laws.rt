@@ -5,7 +5,7 @@
 ghost use Rattle.std.specs.Prelude.{◌≡◌, ◌≢◌, ◌↔◌, ◌≤◌, ◌<◌, IfSome, IsSome, IsTrue};
 ghost use Rattle.tr_table.specs.Starts.{table_of};
 ghost use Rattle.tr_kernel.specs.Laws.{KilledBy, OnlyDyingAt, RestartBetween, TakenInOrder, TwoStops, TwoTakes, WaitsAt, consumed_at};
-ghost use Rattle.tr_kernel.specs.Restarts.{SameQueue};
+ghost use Rattle.tr_kernel.specs.Private.{SameQueue};
 
 use crate::kernels::Kernel;
 use crate::notes::{Mark, TakenFrom};

@@ -1,7 +1,7 @@
 ghost use Rattle.std.specs.Prelude.{◌≡◌, ◌≤◌, ◌<◌, ◌+◌, ◌++◌, ◌∷◌, ◌^◌, [], ℕ, false, length, not, option_copied, slice_get, vec_len, vec_capacity, ◌&&◌, OnOk};
 ghost use Rattle.tr_model.specs.Journals.{chosen};
-ghost use Rattle.tr_kernel.specs.Notes.{all_bumped, bumped, exec_mark, is_some_group, is_stop_status, mark_after, mark_before, passed_by, passed_id, passes_in, shows_stop, stop_mark, times, took_mark};
-ghost use Rattle.tr_kernel.specs.Restarts.{killed_in, mark_in};
+ghost use Rattle.tr_kernel.specs.Notes.{exec_mark, is_some_group, is_stop_status, shows_stop, stop_mark, times};
+ghost use Rattle.tr_kernel.specs.Private.{PassOn, killed_in, mark_after, mark_before, mark_in, passed_by, passed_id, passes_in};
 
 use crate::fates::{append, at_position};
 use std::alloc::{AllocError, Global};
@@ -181,11 +181,11 @@ fn passes_in(passed: &[Passed], queue: Target) -> u64
 }
 
 /// An id passes on once more.
-#[tactic(auto, using(crate::proofs::Bumped::set_bumped))]
+#[tactic(auto, using(crate::proofs::Bumped::set_counts, crate::proofs::Bumped::append_counts))]
 fn bump(passed: &mut Vec<Passed>, id: u32)
     requires room { vec_len passed.old < vec_capacity passed.old }
     requires few { times id passed.old.items < 2 ^ 32 }
-    ensures { passed.new.items ≡ bumped id passed.old.items }
+    ensures { PassOn (id ∷ []) passed.old.items passed.new.items }
 {
     for place in 0..passed.len() {
         if passed[place].id == id {
@@ -199,7 +199,7 @@ fn bump(passed: &mut Vec<Passed>, id: u32)
 fn bump_some(passed: &mut Vec<Passed>, id: Option<u32>)
     requires room { vec_len passed.old < vec_capacity passed.old }
     requires few { (n : ℕ) → times n passed.old.items < 2 ^ 32 }
-    ensures { passed.new.items ≡ all_bumped (chosen id) passed.old.items }
+    ensures { PassOn (chosen id) passed.old.items passed.new.items }
 {
     if let Some(id) = id {
         bump(passed, id);
@@ -209,7 +209,7 @@ fn bump_some(passed: &mut Vec<Passed>, id: Option<u32>)
 // What the step shows
 
 fn took_mark(mark: Mark, queue: Target, passed: &[Passed], reply: &Reply) -> Mark
-    ensures { result ≡ took_mark mark queue passed.now reply.now }
+    ensures { result ≡ mark_after mark (Some queue) passed.now reply.now }
 {
     match reply {
         Reply::Took { inst, .. } => Mark::Take(TakenFrom {
@@ -223,7 +223,7 @@ fn took_mark(mark: Mark, queue: Target, passed: &[Passed], reply: &Reply) -> Mar
 }
 
 fn mark_after(mark: Mark, reply: &Reply, queue: Option<Target>, passed: &[Passed]) -> Mark
-    ensures { result ≡ mark_after mark reply.now queue passed.now }
+    ensures { result ≡ mark_after mark queue passed.now reply.now }
 {
     match queue {
         Some(queue) => took_mark(mark, queue, passed, reply),
@@ -291,9 +291,9 @@ impl Notes {
         requires dying { vec_len self.old.dying + length made.now.dying.items ≤ vec_capacity self.old.dying }
         requires passed { vec_len self.old.passed < vec_capacity self.old.passed }
         requires few { (n : ℕ) → times n self.old.passed.items < 2 ^ 32 }
-        ensures list { self.new.list.items ≡ self.old.list.items ++ record { mark = mark_after mark made.now.reply made.now.taken_from self.old.passed.items; killed = is_some_group made.now.killed.items; deaths = length self.old.dying.items + length made.now.dying.items } ∷ [] }
+        ensures list { self.new.list.items ≡ self.old.list.items ++ record { mark = mark_after mark made.now.taken_from self.old.passed.items made.now.reply; killed = is_some_group made.now.killed.items; deaths = length self.old.dying.items + length made.now.dying.items } ∷ [] }
         ensures dying { self.new.dying.items ≡ self.old.dying.items ++ made.now.dying.items }
-        ensures passed { self.new.passed.items ≡ all_bumped (chosen passing) self.old.passed.items }
+        ensures passed { PassOn (chosen passing) self.old.passed.items self.new.passed.items }
     {
         let mark = mark_after(mark, &made.reply, made.taken_from, &self.passed);
         append_all(&mut self.dying, &made.dying);

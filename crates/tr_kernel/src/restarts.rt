@@ -1,6 +1,6 @@
 ghost use Rattle.std.specs.Prelude.{◌≡◌, ◌≤◌, ◌<◌, ◌-◌, ◌+◌, ◌==◌, ◌&&◌, ◌||◌, ℕ, None, true, false, not, length, take, drop, slice_get, IfSome};
 ghost use Rattle.std.specs.List.{list_any};
-ghost use Rattle.tr_kernel.specs.Restarts.{AreOrdered, deaths_to, is_exec_in, is_restart, restarts_at};
+ghost use Rattle.tr_kernel.specs.Private.{AreOrdered, deaths_to, is_exec_in, is_restart, restarts_at};
 
 use crate::notes::{Mark, Note, Stopped};
 use tr_model::{Entry, Event};

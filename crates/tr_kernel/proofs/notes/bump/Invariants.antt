@@ -1,5 +1,6 @@
 use Rattle.std.proofs.Common.{◌≡◌, ◌++◌, drop, take}
-use Rattle.tr_kernel.specs.Notes.{bumped, times}
+use Rattle.tr_kernel.specs.Notes.{times}
+use Rattle.tr_kernel.proofs.Bumped.{bumped}
 use Rattle.tr_kernel.proofs.notes.bump.Given as goal
 
 abbrev pub invariant-loop-place : goal.invariant-loop-place

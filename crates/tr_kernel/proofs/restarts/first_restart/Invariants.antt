@@ -1,5 +1,5 @@
 use Rattle.std.proofs.Common.{◌≡◌, ℕ, ◌≤◌, ◌<◌, false}
-use Rattle.tr_kernel.specs.Restarts.{restarts_at}
+use Rattle.tr_kernel.specs.Private.{restarts_at}
 use Rattle.tr_kernel.proofs.restarts.first_restart.Given as goal
 
 abbrev pub invariant-loop-place : goal.invariant-loop-place

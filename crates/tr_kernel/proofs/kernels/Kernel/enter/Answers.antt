@@ -26,7 +26,7 @@ invariant_of-self c =
       | in-Ok w ↦
           let e = w.in-Ok.ensures in (
             written_history _ _ w.in-Ok.reply _ c.self.invariant.0 due (record { start = refl; table = e.table; reply = e.reply; journal = e.journal; replies = e.replies; fates = e.fates }),
-            rw (e.journal, e.notes, e.dying, e.passed) (noted_goes_on _ (record { actor = c.args.actor; event = c.args.event.now; choice = c.args.choice.now }) _ _ _ c.self.invariant.0 c.self.invariant.1 due),
+            rw (e.journal, e.notes, e.dying) (noted_goes_on _ (record { actor = c.args.actor; event = c.args.event.now; choice = c.args.choice.now }) _ _ _ _ c.self.invariant.0 c.self.invariant.1 due e.passed),
           )
       | in-Err w ↦
           let e = w.in-Err.ensures in

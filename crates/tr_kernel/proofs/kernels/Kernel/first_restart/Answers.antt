@@ -1,7 +1,7 @@
 use Rattle.std.proofs.Common.{◌∙◌, ap, sym, subst, length}
 use Rattle.tr_table.specs.Starts.{table_of}
 use Rattle.tr_kernel.specs.Notes.{notes_of}
-use Rattle.tr_kernel.specs.Restarts.{AreOrdered}
+use Rattle.tr_kernel.specs.Private.{AreOrdered}
 use Rattle.tr_kernel.proofs.Noticed.{length_notes, notes_ordered}
 use Rattle.tr_kernel.proofs.Restarted.{restart_found, restart_none}
 use Rattle.tr_kernel.proofs.kernels.Kernel.first_restart.Goals as goal
