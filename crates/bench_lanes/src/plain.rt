@@ -3,6 +3,7 @@
 use crate::rows::Rows;
 use tr_sigset::Signal;
 
+/// The place of the first own row without the signal, from 0; `u64::MAX` where each has it.
 #[inline(never)]
 pub fn first_clear(rows: &Rows, signal: &Signal, _out: &mut [u64]) -> u64 {
     let bit = 1 << (signal.number() - 1);
@@ -14,6 +15,7 @@ pub fn first_clear(rows: &Rows, signal: &Signal, _out: &mut [u64]) -> u64 {
     u64::MAX
 }
 
+/// The place of the first thread that can take a signal, from 0; `u64::MAX` where none can.
 #[inline(never)]
 pub fn first_ready(rows: &Rows, _signal: &Signal, _out: &mut [u64]) -> u64 {
     let count = rows.own.len();
@@ -28,6 +30,7 @@ pub fn first_ready(rows: &Rows, _signal: &Signal, _out: &mut [u64]) -> u64 {
     u64::MAX
 }
 
+/// Writes what each thread can take, and gives the number of rows.
 #[inline(never)]
 pub fn ready_rows(rows: &Rows, _signal: &Signal, out: &mut [u64]) -> u64 {
     let (own, blocked, runnable, shared) = (rows.own, rows.blocked, rows.runnable, rows.shared);
@@ -41,6 +44,7 @@ pub fn ready_rows(rows: &Rows, _signal: &Signal, out: &mut [u64]) -> u64 {
     count as u64
 }
 
+/// The union of all own rows.
 #[inline(never)]
 pub fn union_all(rows: &Rows, _signal: &Signal, _out: &mut [u64]) -> u64 {
     let mut union = 0;
@@ -50,6 +54,7 @@ pub fn union_all(rows: &Rows, _signal: &Signal, _out: &mut [u64]) -> u64 {
     union
 }
 
+/// How many own rows have the signal.
 #[inline(never)]
 pub fn count_holding(rows: &Rows, signal: &Signal, _out: &mut [u64]) -> u64 {
     let bit = 1 << (signal.number() - 1);

@@ -16,9 +16,13 @@ pub struct Data {
 /// What one call scans.
 #[derive(Clone, Copy)]
 pub struct Rows<'a> {
+    /// The signals that wait in each thread's own queue, a row a thread: bit n - 1 is signal n.
     pub own: &'a [u64],
+    /// The signals that each thread blocks.
     pub blocked: &'a [u64],
+    /// For each thread all bits where it is runnable, and else none.
     pub runnable: &'a [u64],
+    /// The signals that wait in the shared queue.
     pub shared: u64,
 }
 

@@ -100,7 +100,7 @@ fn at<E: Parts + Send + Sync, A: Parts + Send + Sync, R: Threads + Wait + Abort 
         Trial::Closed => ends::close(rt, hub, seats),
         Trial::Tried => waits::try_waits(rt, &hub, seats),
         Trial::Waited => waits::wait_for_another(rt, &hub, seats),
-        Trial::Called(turns) => calls::call_all(rt, hub, seats, turns),
+        Trial::Called(turns) => calls::call_all(rt, hub, seats, actors, turns),
     }
 }
 

@@ -68,16 +68,23 @@ pub enum Event {
 /// thread, the report of a wait, the id of a clone. The other fields are None.
 #[derive(Clone, Copy, Debug, PartialEq, Eq)]
 pub struct Choice {
+    /// The thread that a take by any thread of a group fell to.
     pub thread: Option<u32>,
+    /// The number of the instance that was taken.
     pub instance: Option<u64>,
+    /// The number of the report that a wait consumed.
     pub report: Option<u64>,
+    /// The id that a clone gave.
     pub new_id: Option<u32>,
 }
 
 /// An entry of the journal: one step.
 #[derive(Clone, Copy, Debug, PartialEq, Eq)]
 pub struct Entry {
+    /// Who asked for it: a tracer, a thread, the starter or any other.
     pub actor: u32,
+    /// What was asked for.
     pub event: Event,
+    /// What was chosen where the model leaves it free.
     pub choice: Choice,
 }

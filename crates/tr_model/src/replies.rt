@@ -20,6 +20,7 @@ pub enum Did {
 /// The answer to an event that isn't refused.
 #[derive(Clone, Copy, Debug, PartialEq, Eq)]
 pub enum Reply {
+    /// It is done, and there is nothing to tell.
     Done,
     /// The target of signal 0 is there.
     Exists,
@@ -27,6 +28,7 @@ pub enum Reply {
     Nothing,
     /// The signal was accepted as this number; its fate right after the step.
     Sent { n: u64, fate: Fate },
+    /// The thread that took a signal, what it took, and what it did with it.
     Took { tid: u32, inst: Instance, did: Did },
     /// The new thread's id.
     Cloned { tid: u32 },

@@ -5,14 +5,18 @@ use tr_tracee::{End, Report};
 /// Whose queue: a thread's own, or a group's shared one.
 #[derive(Clone, Copy, Debug, PartialEq, Eq)]
 pub enum Target {
+    /// The own queue of the thread with this id: tgkill(2).
     Thread(u32),
+    /// The shared queue of the group with this id: kill(2).
     Group(u32),
 }
 
 /// An instance in a queue.
 #[derive(Clone, Copy, Debug, PartialEq, Eq)]
 pub struct Waiting {
+    /// What waits.
     pub instance: Instance,
+    /// In whose queue it waits.
     pub target: Target,
 }
 
@@ -31,6 +35,7 @@ pub struct Group {
     pub name: Name,
     /// The actions of signals 1 to 64.
     pub actions: [Action; 64],
+    /// Its group-stop, if one is in effect: ptrace(2).
     pub group_stop: GroupStop,
     /// How it ends, once it is dying.
     pub end: Option<End>,

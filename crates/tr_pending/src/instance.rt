@@ -16,6 +16,8 @@ pub struct Info {
 pub struct Instance {
     /// Its number, from 1 up in order of acceptance over the whole kernel.
     pub n: u64,
+    /// Which signal it is.
     pub sig: Signal,
+    /// What its taker is told of its sender.
     pub info: Info,
 }

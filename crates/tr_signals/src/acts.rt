@@ -1,3 +1,5 @@
+//! What a thread does at a signal that is delivered to it: "Signal dispositions" of signal(7).
+
 ghost use Rattle.std.specs.Prelude.{◌≡◌, ◌+◌, ℕ, not};
 ghost use Rattle.tr_model.specs.GroupStops.{initiate};
 ghost use Rattle.tr_model.specs.Moves.{Work, when};
@@ -15,8 +17,6 @@ use tr_model::Did;
 use tr_sigset::{Base, Signal};
 use tr_table::{Log, Own, Table};
 use tr_tracee::{End, Thread};
-
-// What a thread does at a signal that is delivered to it: "Signal dispositions" of signal(7).
 
 /// What an action makes of a signal.
 pub fn did_of(action: Action, signal: Signal) -> Did

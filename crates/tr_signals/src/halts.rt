@@ -1,3 +1,5 @@
+//! How a thread serves its stop mark: "Group-stop" of ptrace(2).
+
 ghost use Rattle.std.specs.Prelude.{◌≡◌, ◌+◌, ℕ, IfOk, None, Ok, OnErr, if◌then◌else◌};
 ghost use Rattle.tr_model.specs.declared.checked.Checked.TheVariants.{Due};
 ghost use Rattle.tr_model.specs.declared.events.Event.TheVariants.{Halt};
@@ -24,8 +26,6 @@ use tr_sigset::Signal;
 use tr_table::{Log, Own, Table};
 use tr_tracee::{Stop, Thread};
 use tr_wait::StopSig;
-
-// How a thread serves its stop mark: "Group-stop" of ptrace(2).
 
 fn stop_of(thread: &Thread, signal: Signal) -> Stop
     ensures { result ≡ (if seized thread.now.trace then stop.Event (stop_sig_of signal) else stop.Group signal) }

@@ -1,3 +1,5 @@
+//! What an entry makes beside the table, with a place for each move that it may need.
+
 ghost use Rattle.std.specs.Prelude.{◌≡◌, ◌+◌, [], IfOk, OnOk, length};
 ghost use Rattle.std.specs.Option.{SomeIff};
 ghost use Rattle.tr_model.specs.Moves.{begin};
@@ -12,10 +14,15 @@ use tr_table::{Log, Table};
 /// delivered to, and the queue of a take.
 #[derive(Drop)]
 pub struct Made {
+    /// The answer to the event.
     pub reply: Reply,
+    /// The instances that ended, and how.
     pub ended: Vec<Ending>,
+    /// The ids of the groups whose death began.
     pub dying: Vec<u32>,
+    /// The ids of the groups that a KILL was delivered to.
     pub killed: Vec<u32>,
+    /// Whose queue a take took from. None for every other event.
     pub taken_from: Option<Target>,
 }
 

@@ -1,3 +1,5 @@
+//! What a thread does by itself: sigprocmask(2), pause(2), and which signal it takes next.
+
 ghost use Rattle.std.specs.Prelude.{◌≡◌, ℕ, IfOk, OnErr, None, Ok};
 ghost use Rattle.tr_model.specs.declared.checked.Checked.TheVariants.{Due};
 ghost use Rattle.tr_model.specs.declared.events.Event.TheVariants.{Mask, Pause};

@@ -1,3 +1,6 @@
+//! The small moves of a step: each makes of table and log what the model's move makes of the step under way, and uses up
+//! the places that it needs. None takes memory.
+
 ghost use Rattle.std.specs.Prelude.{◌≡◌, ◌+◌, ◌≤◌, ◌<◌, ◌==◌, ℕ, false, length};
 ghost use Rattle.tr_model.specs.declared.fates.Fate.TheVariants.{Flushed};
 ghost use Rattle.tr_model.specs.Moves.{Work, accept_as, alter, become, drop_empty, end_waiting, enqueue, enter, entered_now, note, only_group, pulled, raise, regroup, remove_dead, report_death, take_place, tell_dying, tell_killed};
@@ -19,9 +22,6 @@ use tr_sigset::Signal;
 use tr_table::{Flush, GroupChange, Log, Own, Table};
 use tr_tracee::{End, Stop, Thread};
 use tr_wait::Status;
-
-// The small moves of a step: each makes of table and log what the model's move makes of the step under way, and uses up
-// the places that it needs. None takes memory.
 
 /// Each live thread of a group that takes no part in the group-stop yet gets the stop mark.
 #[tactic(auto, using(crate::proofs::Rooms::helds_marked))]

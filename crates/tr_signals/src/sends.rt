@@ -1,3 +1,5 @@
+//! What becomes of an accepted signal: kill(2), tgkill(2), sigqueue(3) and signal(7), by six rules in their order.
+
 ghost use Rattle.std.specs.Prelude.{◌≡◌, ◌+◌, ℕ};
 ghost use Rattle.tr_tracee.specs.declared.life.End.{End};
 ghost use Rattle.tr_tracee.specs.Marks.{cont_noted};
@@ -23,8 +25,6 @@ use tr_pending::Info;
 use tr_sigset::Signal;
 use tr_table::{Flush, GroupChange, Log, Table};
 use tr_tracee::End;
-
-// What becomes of an accepted signal: kill(2), tgkill(2), sigqueue(3) and signal(7), by six rules in their order.
 
 // Deaths
 

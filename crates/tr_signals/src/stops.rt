@@ -1,3 +1,5 @@
+//! Group-stops: "Group-stop" of ptrace(2).
+
 ghost use Rattle.std.specs.Prelude.{◌≡◌, ◌+◌, ◌<◌, ℕ, not, ◌&&◌, None, is_some, length};
 ghost use Rattle.tr_wait.specs.declared.status.Status.TheVariants as status;
 ghost use Rattle.tr_group.specs.GroupStops.{is_complete, is_stopping};
@@ -15,8 +17,6 @@ use tr_model::Reply;
 use tr_sigset::Signal;
 use tr_table::{GroupChange, Log, Table};
 use tr_wait::Status;
-
-// Group-stops: "Group-stop" of ptrace(2).
 
 /// The signal of the group-stop in effect.
 pub fn stop_now(table: &Table, tgid: u32) -> Option<Signal>

@@ -25,12 +25,9 @@ impl Thread {
     {
         let told = kill || self.life.was_told() || !self.options().exit;
         self.life = Life::Leaving { end: *end, told };
-        self.stop_mark = false;
-        self.trap_mark = false;
-        self.note_mark = false;
-        self.pausing = false;
+        self.unmark();
         self.joined = false;
-        self.report = None;
+        self.withdraw_report();
     }
 
     /// Loses its marks and ends its pause, as it exits.
@@ -63,7 +60,7 @@ impl Thread {
     {
         if self.life.is_dead() {
             self.trace = None;
-            self.report = None;
+            self.withdraw_report();
         }
     }
 

@@ -16,7 +16,7 @@ impl Thread {
         ensures { self.new ≡ traced_by trace.now self.old }
     {
         self.trace = traced_from(&self.trace, trace);
-        self.report = None;
+        self.withdraw_report();
     }
 
     /// Has these options from now on, if somebody traces it: `PTRACE_SETOPTIONS`.
@@ -66,7 +66,7 @@ impl Thread {
         let held = self.life.held();
         self.joined = self.joined && !ends_part_of(&self.life);
         self.life = restarted_from(&self.life);
-        self.report = None;
+        self.withdraw_report();
         held
     }
 
@@ -75,7 +75,7 @@ impl Thread {
         ensures { self.new ≡ listening self.old }
     {
         self.life = listening_from(&self.life);
-        self.report = None;
+        self.withdraw_report();
     }
 
     /// Sets its trap mark: `PTRACE_INTERRUPT`.
@@ -106,7 +106,7 @@ impl Thread {
         self.note_mark = false;
         self.stop_mark = self.stop_mark && !halts;
         self.joined = self.joined || halts;
-        self.report = None;
+        self.withdraw_report();
     }
 }
 

@@ -9,15 +9,20 @@ use tr_wait::Status;
 /// `PTRACE_O_EXITKILL` of ptrace(2).
 #[derive(Clone, Copy, Debug, PartialEq, Eq)]
 pub struct Options {
+    /// `PTRACE_O_TRACECLONE`: it stops at its clone(2), and the new thread is traced too.
     pub clone: bool,
+    /// `PTRACE_O_TRACEEXEC`: it stops once its execve(2) is done.
     pub exec: bool,
+    /// `PTRACE_O_TRACEEXIT`: it stops before it ends, unless KILL ends it.
     pub exit: bool,
+    /// `PTRACE_O_EXITKILL`: it is killed as its tracer ends.
     pub exitkill: bool,
 }
 
 /// Who traces a thread, and how.
 #[derive(Clone, Copy, Debug, PartialEq, Eq)]
 pub struct Trace {
+    /// The actor that traces it.
     pub tracer: u32,
     /// By `PTRACE_SEIZE`, else by `PTRACE_ATTACH`.
     pub seized: bool,
@@ -41,7 +46,9 @@ pub struct Thread {
     pub mask: SigSet,
     /// It waits in pause(2).
     pub pausing: bool,
+    /// What it is doing.
     pub life: Life,
+    /// Who traces it, if anybody.
     pub trace: Option<Trace>,
     /// It is to stop for its group's group-stop.
     pub stop_mark: bool,

@@ -4,7 +4,9 @@ ghost use Rattle.tr_wait.specs.Words.{asks_for};
 /// Which thread or group a wait asks for. `One(0)` is as `Any`.
 #[derive(Clone, Copy, Debug, PartialEq, Eq)]
 pub enum Which {
+    /// Any, as -1 for waitpid(2).
     Any,
+    /// The one with this id.
     One(u32),
 }
 

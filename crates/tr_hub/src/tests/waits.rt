@@ -1,5 +1,5 @@
 use super::same;
-use crate::{Answer, Hub, Parts, Seat, WaitCall};
+use crate::{Answer, Hub, Parts, Receipt, Seat, WaitCall};
 use std::process::Abort;
 use std::sync::Wait;
 use std::test::Fail;
@@ -48,17 +48,6 @@ fn waited<E: Parts + Send + Sync, A: Parts + Send + Sync, R: Threads + Wait + Sy
     answer
 }
 
-/// The word of the report that a wait consumed.
-fn word_of(answer: &Answer) -> Option<u32> {
-    match answer {
-        Answer::Entered(receipt) => match &receipt.reply {
-            Reply::Waited { word, .. } => Some(*word),
-            _ => None,
-        },
-        _ => None,
-    }
-}
-
 pub(super) fn wait_for_another<
     E: Parts + Send + Sync,
     A: Parts + Send + Sync,
@@ -69,7 +58,16 @@ pub(super) fn wait_for_another<
     };
     let attached = hub.call(rt, &mut tracer, Event::Attach { tid: 10 });
     same(rt, &attached.is_entered(), &true);
-    let answer = waited(rt, hub, tracer, other);
-    same(rt, &word_of(&answer), &Some(0x137f));
+    let want = Receipt {
+        position: 3,
+        event: Event::Wait { which: Which::Any },
+        reply: Reply::Waited {
+            id: 10,
+            word: 0x137f,
+            report: 1,
+        },
+        accepted: 0,
+    };
+    same(rt, &waited(rt, hub, tracer, other), &Answer::Entered(want));
     Ok(())
 }
