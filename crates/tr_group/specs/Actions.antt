@@ -12,6 +12,7 @@ does_nothing Ignored = true
 does_nothing Continue = true
 does_nothing _ = false
 
+-- the signal is ignored: by its action, or by a default action that does nothing
 abbrev pub ignoring : Action → ℕ → Bool
 ignoring Ignore s = true
 ignoring Default s = does_nothing (base_of s)

@@ -10,10 +10,12 @@ stop_signal No = None
 stop_signal (Stopping s) = Some s
 stop_signal (Stopped s) = Some s
 
+-- some threads have still to stop
 abbrev pub is_stopping : GroupStop → Bool
 is_stopping (Stopping s) = true
 is_stopping _ = false
 
+-- all its threads have stopped
 abbrev pub is_complete : GroupStop → Bool
 is_complete (Stopped s) = true
 is_complete _ = false
@@ -23,6 +25,7 @@ abbrev pub begun : ℕ → GroupStop → GroupStop
 begun s No = Stopping s
 begun s old = old
 
+-- the last thread has stopped
 abbrev pub completed : GroupStop → GroupStop
 completed (Stopping s) = Stopped s
 completed old = old

@@ -9,10 +9,12 @@ use Rattle.tr_tracee.specs.Threads.{in_group}
 use Rattle.tr_group.specs.declared.members.Change.{Change}
 use Rattle.tr_group.specs.declared.members.Change.TheVariants as change
 
+-- how many threads the group has
 abbrev pub count_in : ℕ → List Thread → ℕ
 count_in g [] = 0
 count_in g (t ∷ ts) = if in_group g t then suc (count_in g ts) else count_in g ts
 
+-- this thread at place 0, else a later one
 abbrev pub at_place : ℕ → Thread → (ℕ → Option Thread) → Option Thread
 at_place zero t later = Some t
 at_place (suc i) t later = later i
@@ -22,6 +24,7 @@ abbrev pub member : ℕ → ℕ → List Thread → Option Thread
 member g i [] = None
 member g i (t ∷ ts) = if in_group g t then at_place i t (λ j. member g j ts) else member g i ts
 
+-- the record goes to this thread's place, or to a later one
 abbrev pub put_place : ℕ → Thread → Thread → List Thread → (ℕ → List Thread) → List Thread
 put_place zero x t ts later = x ∷ ts
 put_place (suc i) x t ts later = t ∷ later i
@@ -35,6 +38,7 @@ put_member g i x (t ∷ ts) = if in_group g t then put_place i x t ts (λ j. put
 abbrev pub continued_by : Bool → Thread → Thread
 continued_by in_effect t = if in_effect then continued (noted t) else noted t
 
+-- what the change makes of one thread of the group
 abbrev pub applied : Change → Thread → Thread
 applied change.Mark t = marked t
 applied (change.Continue in_effect) t = continued_by in_effect t
@@ -46,19 +50,22 @@ abbrev pub first_changed : ℕ → (Thread → Thread) → Thread → List Threa
 first_changed zero f t ts later = t ∷ ts
 first_changed (suc n) f t ts later = f t ∷ later n
 
+-- f at each of the first n threads of the group
 abbrev pub upto : ℕ → ℕ → (Thread → Thread) → List Thread → List Thread
 upto n g f [] = []
 upto n g f (t ∷ ts) = if in_group g t then first_changed n f t ts (λ j. upto j g f ts) else t ∷ upto n g f ts
 
--- the numbers that the threads of a group hold
+-- the number of the instance that a signal-delivery-stop holds, if there is one
 abbrev pub number_held : Option Instance → List ℕ
 number_held None = []
 number_held (Some i) = i.n ∷ []
 
+-- those that all threads of the group hold, in table order
 abbrev pub held_in : ℕ → List Thread → List ℕ
 held_in g [] = []
 held_in g (t ∷ ts) = (if in_group g t then number_held (held t.life) else []) ++ held_in g ts
 
+-- that of this thread, among the first n, and of later ones
 abbrev pub first_held : ℕ → Thread → (ℕ → List ℕ) → List ℕ
 first_held zero t later = []
 first_held (suc n) t later = number_held (held t.life) ++ later n

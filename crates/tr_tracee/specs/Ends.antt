@@ -10,9 +10,11 @@ use Rattle.tr_tracee.specs.Threads.{seized, options_of}
 
 -- Ending
 
+-- an exit takes the marks, and ends a pause
 abbrev pub unmarked : Thread → Thread
 unmarked t = record t { stop_mark = false; trap_mark = false; note_mark = false; pausing = false }
 
+-- a running thread leaves, and is told already
 abbrev pub leaving_life : End → Life → Life
 leaving_life e life.Free = life.Leaving e true
 leaving_life e l = l
@@ -21,6 +23,7 @@ leaving_life e l = l
 abbrev pub leaving : End → Thread → Thread
 leaving e t = record t { life = leaving_life e t.life }
 
+-- its stop is broken and its report withdrawn; it is told where KILL did it, it was told before, or it has no exit stop to make
 abbrev pub out : Bool → End → Thread → Thread
 out kill e t =
     record t {
@@ -38,10 +41,12 @@ out kill e t =
 abbrev pub broken : Bool → End → Thread → Thread
 broken kill e t = if is_dead t.life then t else out kill e t
 
+-- who was told to leave is dead
 abbrev pub dead_life : Life → Life
 dead_life (life.Leaving e told) = if told then life.Dead e else life.Leaving e told
 dead_life l = l
 
+-- a told thread dies
 abbrev pub dead : Thread → Thread
 dead t = record t { life = dead_life t.life }
 
@@ -61,17 +66,21 @@ own_end e _ = e
 abbrev pub broken_by_exec : ℕ → End → Thread → Thread
 broken_by_exec id e t = if t.id == id then t else broken false (own_end e t.life) t
 
+-- a running thread waits in execve(2) for the others
 abbrev pub execing_life : Life → Life
 execing_life life.Free = life.Execing
 execing_life l = l
 
+-- it begins execve(2) in a group of several threads
 abbrev pub execing : Thread → Thread
 execing t = record t { life = execing_life t.life }
 
+-- who waited in execve(2) runs again
 abbrev pub execed_life : Life → Life
 execed_life life.Execing = life.Free
 execed_life l = l
 
+-- its execve(2) is done
 abbrev pub execed : Thread → Thread
 execed t = record t { life = execed_life t.life }
 

@@ -10,30 +10,37 @@ use Rattle.tr_tracee.specs.declared.life.Life.TheVariants as life
 use Rattle.tr_tracee.specs.declared.life.Stop.{Stop}
 use Rattle.tr_tracee.specs.declared.life.Stop.TheVariants as stop
 
+-- it runs, or waits in pause(2): no stop holds it
 abbrev pub is_free : Life → Bool
 is_free life.Free = true
 is_free _ = false
 
+-- a group-stop holds it, and nobody traces it
 abbrev pub is_stopped : Life → Bool
 is_stopped life.Stopped = true
 is_stopped _ = false
 
+-- it is in a ptrace-stop
 abbrev pub is_in_stop : Life → Bool
 is_in_stop (life.InStop s) = true
 is_in_stop _ = false
 
+-- it is in a PTRACE_EVENT_STOP
 abbrev pub is_in_event_stop : Life → Bool
 is_in_event_stop (life.InStop (stop.Event x)) = true
 is_in_event_stop _ = false
 
+-- it ends, and may have its exit stop before it
 abbrev pub is_leaving : Life → Bool
 is_leaving (life.Leaving e told) = true
 is_leaving _ = false
 
+-- it has ended: a zombie
 abbrev pub is_dead : Life → Bool
 is_dead (life.Dead e) = true
 is_dead _ = false
 
+-- it waits in execve(2) for the other threads of its group to die
 abbrev pub is_execing : Life → Bool
 is_execing life.Execing = true
 is_execing _ = false
@@ -73,6 +80,7 @@ abbrev pub cont_came : Life → Bool
 cont_came (life.InStop (stop.Signal i came)) = came
 cont_came _ = false
 
+-- the stop is a PTRACE_EVENT_STOP
 abbrev pub is_event_stop : Stop → Bool
 is_event_stop (stop.Event x) = true
 is_event_stop _ = false

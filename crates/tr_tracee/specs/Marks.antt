@@ -13,9 +13,11 @@ use Rattle.tr_tracee.specs.Threads.{seized}
 abbrev pub storable : SigSet → SigSet
 storable set = without 9 (without 19 set)
 
+-- sigprocmask(2): another mask in place of its own
 abbrev pub masked : SigSet → Thread → Thread
 masked set t = record t { mask = storable set }
 
+-- pause(2) begins or ends
 abbrev pub paused : Bool → Thread → Thread
 paused p t = record t { pausing = p }
 
@@ -27,10 +29,12 @@ marked t = record t { stop_mark = t.stop_mark || (is_live t.life && not t.joined
 abbrev pub joining : Thread → Thread
 joining t = record t { stop_mark = false; joined = true }
 
+-- a running thread is stopped
 abbrev pub stopped_life : Life → Life
 stopped_life life.Free = life.Stopped
 stopped_life l = l
 
+-- a group-stop holds it: an untraced thread is stopped
 abbrev pub stopped : Thread → Thread
 stopped t = record t { life = stopped_life t.life }
 
@@ -38,6 +42,7 @@ stopped t = record t { life = stopped_life t.life }
 abbrev pub noted : Thread → Thread
 noted t = record t { note_mark = t.note_mark || (is_live t.life && seized t.trace) }
 
+-- a stopped thread runs again
 abbrev pub continued_life : Life → Life
 continued_life life.Stopped = life.Free
 continued_life l = l
@@ -46,6 +51,7 @@ continued_life l = l
 abbrev pub continued : Thread → Thread
 continued t = record t { life = continued_life t.life; stop_mark = false; joined = false }
 
+-- the signal-delivery-stop notes the SIGCONT
 abbrev pub cont_noted_life : Life → Life
 cont_noted_life (life.InStop (stop.Signal i came)) = life.InStop (stop.Signal i true)
 cont_noted_life l = l

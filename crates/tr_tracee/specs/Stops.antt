@@ -12,6 +12,7 @@ use Rattle.tr_tracee.specs.Lives.{is_event_stop, is_in_stop, serves_marks, statu
 
 -- Tracing
 
+-- a trace that is there stays, else it is this one
 abbrev pub or_else : Option Trace → Trace → Option Trace
 or_else None r = Some r
 or_else (Some old) r = Some old
@@ -20,6 +21,7 @@ or_else (Some old) r = Some old
 abbrev pub traced_by : Trace → Thread → Thread
 traced_by r t = record t { trace = or_else t.trace r; report = None }
 
+-- the trace, if there is one, with these options
 abbrev pub with_options : Options → Option Trace → Option Trace
 with_options o None = None
 with_options o (Some r) = Some (record r { options = o })
@@ -78,6 +80,7 @@ ends_part _ = false
 abbrev pub restarted : Thread → Thread
 restarted t = record t { life = restarted_life t.life; joined = t.joined && not (ends_part t.life); report = None }
 
+-- a PTRACE_EVENT_STOP becomes listening
 abbrev pub listening_life : Life → Life
 listening_life (life.InStop (stop.Event x)) = life.Listening
 listening_life l = l
@@ -95,6 +98,7 @@ untraced_life in_effect life.Listening = if in_effect then life.Stopped else lif
 untraced_life in_effect (life.Leaving e told) = life.Leaving e true
 untraced_life in_effect l = l
 
+-- trace, trap mark and note mark go; where a group-stop is in effect a thread that serves marks is stopped and takes part
 abbrev pub without_trace : Bool → Thread → Thread
 without_trace in_effect t =
     record t {
