@@ -19,14 +19,17 @@ IsWait (event.Wait which) = Unit {0}
 IsWait (event.StarterWait which flags) = Unit {0}
 IsWait _ = ⊥
 
+-- the entry at the position is a wait of a tracer or the starter
 abbrev pub WaitsAt : List Entry → ℕ → Type 0
 WaitsAt es p = (e : Entry) × (entry_at es p ≡ Some e) × IsWait e.event
 
+-- the report that a wait consumed is in its choice
 abbrev pub report_by : Event → Choice → Option ℕ
 report_by (event.Wait which) c = c.report
 report_by (event.StarterWait which flags) c = c.report
 report_by _ c = None
 
+-- the report that an entry consumed, if it is a wait
 abbrev pub report_of : Option Entry → Option ℕ
 report_of None = None
 report_of (Some e) = report_by e.event e.choice
@@ -87,5 +90,6 @@ Keeps T es i j k = PassesOn k.queue (renamed_by (table_at T es i) (between es i 
 abbrev pub TwoTakes : Table → List Entry → ℕ → ℕ → Type 0
 TwoTakes T es i j = (i < j) × ((k l : Taken) × TakesAt T es i k × TakesAt T es j l × (k.signal ≡ l.signal) × (k.queue ≡ l.queue) × Keeps T es i j k)
 
+-- the instance that was taken first has the lesser number
 abbrev pub TakenInOrder : Table → List Entry → ℕ → ℕ → Type 0
 TakenInOrder T es i j = (k l : Taken) → TakesAt T es i k → TakesAt T es j l → k.number < l.number

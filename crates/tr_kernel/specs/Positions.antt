@@ -20,6 +20,7 @@ abbrev pub before : List Entry → ℕ → List Entry
 before es zero = []
 before es (suc k) = take k es
 
+-- the table in which the entry at a position was made
 abbrev pub table_before : Table → List Entry → ℕ → Table
 table_before T es zero = T
 table_before T es (suc k) = table_at T es k

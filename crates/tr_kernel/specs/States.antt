@@ -23,6 +23,7 @@ pub record State : Type 0 where
   pub replies : List Reply
   pub fates : List Fate
 
+-- a kernel that made no step yet
 abbrev pub opened : Start → State
 opened s = record { start = s; table = table_of s; journal = []; replies = []; fates = [] }
 

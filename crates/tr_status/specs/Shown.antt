@@ -3,6 +3,7 @@ use Rattle.std.specs.Prelude.{ℕ, List}
 use Rattle.tr_status.specs.declared.statuses.Values.{Values}
 use Rattle.tr_status.specs.Statuses.{lines_text}
 
+-- the text of these values, line by line
 abbrev pub values_text : Values → List ℕ
 values_text v = lines_text (record {
   name = v.name.now;

@@ -28,6 +28,7 @@ state_text pausing (life.InStop stop) = codes "t (tracing stop)"
 state_text pausing life.Listening = codes "t (tracing stop)"
 state_text pausing (life.Dead end) = codes "Z (zombie)"
 
+-- the bytes of a group's name
 abbrev pub name_text : Option Group → List ℕ
 name_text None = []
 name_text (Some x) = take x.name.len x.name.bytes
@@ -41,6 +42,7 @@ tracer_number (Some r) = r.tracer
 abbrev pub waits_for : Table → Target → ℕ → Bool
 waits_for T q n = is_waiting n (queue T q)
 
+-- both are the same action
 abbrev pub same_action : Action → Action → Bool
 same_action Default Default = true
 same_action Ignore Ignore = true
@@ -53,6 +55,7 @@ has_action a actions n = (nat_le 1 n && nat_le n 64) && same_action a (slice_ind
 
 -- The text
 
+-- what the lines tell, but for the parent, which is always the starter
 pub record Lines : Type 0 where
   pub name : List ℕ
   pub state : List ℕ

@@ -22,6 +22,7 @@ use Rattle.tr_table.specs.declared.groups.GroupChange.TheVariants as group
 use Rattle.tr_table.specs.declared.threads.Own.{Own}
 use Rattle.tr_table.specs.declared.threads.Own.TheVariants as thread
 
+-- what the change makes of one thread's record
 abbrev pub own : Own → Thread → Thread
 own (thread.Mask set) t = masked set t
 own (thread.Pausing p) t = paused p t
@@ -39,6 +40,7 @@ own (thread.Detach in_effect) t = untraced in_effect t
 own thread.BeginExec t = execing t
 own thread.EndExec t = execed t
 
+-- what the change makes of one group's record
 abbrev pub regrouped : GroupChange → Group → Group
 regrouped (group.Begin s) x = beginning s x
 regrouped group.EndStop x = ended_stop x
@@ -58,6 +60,7 @@ flushes flush.Stops s = is_stop s
 flushes flush.Cont s = s == 18
 flushes (flush.One t) s = s == t
 
+-- it waits for the group or for one of its threads, and the flush takes its signal
 abbrev pub is_flushed : List Thread → ℕ → Flush → Waiting → Bool
 is_flushed ts g f q = flushes f q.instance.sig && owner_in ts q.target == g
 

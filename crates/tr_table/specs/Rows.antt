@@ -49,5 +49,6 @@ pub record IsRows (threads : List Thread) (waiting : List Waiting) (g : ℕ) (ro
   pub each : AreRows waiting (filter (in_group g) threads) rows.own rows.blocked rows.runnable
   pub shared : IsWord rows.shared (queue_in (target.Group g) waiting)
 
+-- the rows are those of the group in this table
 abbrev pub RowsOf : Table → ℕ → RowsView → Type 0
 RowsOf T g rows = IsRows T.threads T.waiting g rows

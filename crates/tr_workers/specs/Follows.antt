@@ -34,9 +34,11 @@ pub record Made : Type 0 where
   pub event : Event
   pub answer : Answer
 
+-- a call of this event got this answer
 abbrev pub made : Event → Answer → Made
 made event answer = record { event = event; answer = answer }
 
+-- the answers of the calls, in order
 abbrev pub answers_of : List Made → List Answer
 answers_of calls = map (λ (m : Made). m.answer) calls
 
@@ -49,6 +51,7 @@ AreNext items before (m ∷ rest) = (next_call items before ≡ Some m.event) ×
 abbrev pub IsAnswered : Made → Type 0
 IsAnswered m = IfEntered m.answer (λ r. (r.event ≡ m.event) × (r.accepted ≤ 1024)) × (m.answer ≡ Refused NoMemory → ⊥)
 
+-- each of the calls is answered so
 abbrev pub AreAnswered : List Made → Type 0
 AreAnswered [] = Unit {0}
 AreAnswered (m ∷ rest) = IsAnswered m × AreAnswered rest

@@ -20,6 +20,7 @@ pub record Task : Type 0 where
   pub script : Script
   pub turns : ℕ
 
+-- a script with so many turns
 abbrev pub task : Script → ℕ → Task
 task script turns = record { script = script; turns = turns }
 
