@@ -25,6 +25,7 @@ use Rattle.tr_scenario.specs.Serial.{Devices, HasRead, IsRefused, IsUnread}
 
 -- Scripts
 
+-- the event of a step, as often as it says
 abbrev pub item_of : Step → Item
 item_of s = record { event = s.event; times = s.times }
 
@@ -37,6 +38,7 @@ abbrev pub with_step : List Script → Step → List Script
 with_step [] s = script_of s ∷ []
 with_step (x ∷ xs) s = if x.actor == s.actor then record { actor = x.actor; items = x.items ++ item_of s ∷ [] } ∷ xs else x ∷ with_step xs s
 
+-- each step goes to its actor's script, in their order
 abbrev pub with_steps : List Script → List Step → List Script
 with_steps xs [] = xs
 with_steps xs (s ∷ ss) = with_steps (with_step xs s) ss
@@ -47,10 +49,12 @@ scripts_of ss = with_steps [] ss
 
 -- The text
 
+-- whether a worker made all its calls, or its turns were used up before
 abbrev pub end_of : Ended → List ℕ
 end_of AtEnd = codes "end"
 end_of OutOfTurns = codes "turns"
 
+-- what a worker entered, what its entries accepted, what it was refused, and how it ended
 unfoldable pub worker_line : Receipts → List ℕ
 worker_line w = texts (
     codes "worker " ∷ decimal w.actor ∷
@@ -59,6 +63,7 @@ worker_line w = texts (
     codes " refused " ∷ decimal w.refused ∷
     codes " " ∷ end_of w.outcome ∷ codes "\n" ∷ [])
 
+-- one after the other
 abbrev pub worker_lines : List Receipts → List ℕ
 worker_lines [] = []
 worker_lines (w ∷ ws) = worker_line w ++ worker_lines ws
@@ -67,6 +72,7 @@ worker_lines (w ∷ ws) = worker_line w ++ worker_lines ws
 abbrev pub workers_text : State → List Receipts → List ℕ
 workers_text k ws = worker_lines ws ++ end_text (table_of k.start) (so_far k)
 
+-- the whole text of a run that settles
 abbrev pub settled_text : State → List Receipts → List ℕ
 settled_text k ws = workers_text k ws ++ codes "settled\n"
 
@@ -103,6 +109,7 @@ RunsWorkers old new failures failures_new start scripts turns (Err e) =
 
 -- By what reader and writer show
 
+-- the bytes that came are a scenario that was run by workers and printed; or they are refused, or were not read
 abbrev pub RunsThreaded : {X : Type 0} → Devices → Devices → ℕ → Result X ScenarioFault → Type 0
 RunsThreaded old new turns (Ok x) =
     (bytes : List ℕ) × (s : Scenario) × HasRead old new bytes s × RunsWorkers {X = Unit {0}} old.taken new.taken old.failures new.failures s.start (scripts_of s.steps) turns (Ok tt)

@@ -18,13 +18,16 @@ use Rattle.tracebox.specs.CommandLine.{tracebox}
 abbrev pub is_numeral : Text → Bool
 is_numeral t = nat_le 1 (length t) && (nat_le (length t) 8 && list_all is_ascii_hexdigit t)
 
+-- what it is read as
 abbrev pub numeral_value : Text → Option ℕ
 numeral_value t = if is_numeral t then Some (digits_value 16 t) else None
 
+-- a number asks for the status of its word
 abbrev pub decode_asked : Option ℕ → Result Ask AskFault
 decode_asked None = Err Usage
 decode_asked (Some n) = Ok (Decode (record { 0 = n }))
 
+-- what WORD asks for
 abbrev pub word_asked : Option Text → Result Ask AskFault
 word_asked None = Err Usage
 word_asked (Some t) = decode_asked (numeral_value t)
@@ -33,10 +36,12 @@ word_asked (Some t) = decode_asked (numeral_value t)
 abbrev pub turns_value : Text → Option ℕ
 turns_value t = if is_unsigned_in 1 100000000 t then Some (digits_value 10 (without_leading_plus t)) else None
 
+-- turns ask for a run by threads
 abbrev pub threads_asked : Option ℕ → Result Ask AskFault
 threads_asked None = Err Usage
 threads_asked (Some n) = Ok (Threads n)
 
+-- what N asks for
 abbrev pub turns_asked : Option Text → Result Ask AskFault
 turns_asked None = Err Usage
 turns_asked (Some t) = threads_asked (turns_value t)
@@ -53,6 +58,7 @@ abbrev pub HasTurns : Ask → Type 0
 HasTurns (Threads n) = (1 ≤ n) × (n ≤ 100000000)
 HasTurns _ = Unit {0}
 
+-- what the subcommand asks for; without one it is Usage
 abbrev pub asked_by : Option (Text × List Row) → Result Ask AskFault
 asked_by None = Err Usage
 asked_by (Some m) = named m.0 m.1
@@ -69,6 +75,7 @@ fault_at kind.DisplayHelp = Help
 fault_at kind.DisplayVersion = Help
 fault_at _ = Usage
 
+-- one of the kinds has this fault
 abbrev pub IsFaultOf : Kinds → AskFault → Type 0
 IsFaultOf kinds e = (k : ErrorKind) × IsAmong k kinds × (e ≡ fault_at k)
 

@@ -8,18 +8,23 @@ use Rattle.clap.specs.declared.builder.value_parser.ValueParser.TheVariants.{Uns
 abbrev pub bare : App
 bare = let a = new_app (codes "tracebox") in record a { top = record a.top { has_version = true; subcommand_required = true } }
 
+-- `serial` has no argument
 abbrev pub serial_app : App
 serial_app = new_app (codes "serial")
 
+-- `--turns N`, 1 to 100,000,000, or else 100,000
 abbrev pub turns_rule : Rule
 turns_rule = record (new_rule (codes "turns")) { long = Some (codes "turns"); action = Some Set; value_names = 1; defaults = codes "100000" ∷ []; parser = Some (Unsigned 1 100000000) }
 
+-- `threads` may have turns
 abbrev pub threads_app : App
 threads_app = with_rule (new_app (codes "threads")) turns_rule
 
+-- WORD has to be there
 abbrev pub word_rule : Rule
 word_rule = record (new_rule (codes "WORD")) { action = Some Set; required = true }
 
+-- `decode` has a WORD
 abbrev pub decode_app : App
 decode_app = with_rule (new_app (codes "decode")) word_rule
 

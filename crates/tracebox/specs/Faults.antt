@@ -6,6 +6,7 @@ use Rattle.tracebox.specs.declared.faults.Fault.{Fault}
 use Rattle.tracebox.specs.declared.faults.Fault.TheVariants.{Usage, NotAWord, Scenario}
 use Rattle.tracebox.specs.Meanings.{line}
 
+-- a fault is told by its name
 abbrev pub scenario_fault_name : ScenarioFault → List ℕ
 scenario_fault_name NotJson = codes "NotJson"
 scenario_fault_name BadField = codes "BadField"
@@ -18,11 +19,13 @@ scenario_fault_name NoMemory = codes "NoMemory"
 scenario_fault_name ReadFault = codes "ReadFault"
 scenario_fault_name WriteFault = codes "WriteFault"
 
+-- so are those of the program itself
 abbrev pub fault_name : Fault → List ℕ
 fault_name Usage = codes "Usage"
 fault_name NotAWord = codes "NotAWord"
 fault_name (Scenario e) = scenario_fault_name e
 
+-- the line on standard error
 abbrev pub fault_line : Fault → List ℕ
 fault_line e = line (codes "tracebox: ") (fault_name e)
 
@@ -33,6 +36,7 @@ scenario_status ReadFault = 3
 scenario_status WriteFault = 3
 scenario_status _ = 1
 
+-- 2 for a command line, 1 for a word that has no status
 abbrev pub fault_status : Fault → ℕ
 fault_status Usage = 2
 fault_status NotAWord = 1

@@ -67,6 +67,7 @@ module _ {R W : Type 0} (shown : R → Shown) (taken : W → List ℕ) (failures
   Does (Err asking.Usage) r_old r_new w_old w_new result = (r_new ≡ r_old) × (w_new ≡ w_old) × (result ≡ Err Usage)
   Does (Err asking.NoMemory) r_old r_new w_old w_new result = (r_new ≡ r_old) × (w_new ≡ w_old) × (result ≡ Err (Scenario scenario.NoMemory))
 
+  -- what the words ask for is done
   abbrev pub Attempts : List Text → R → R → W → W → Result ⊤ Fault → Type 0
   Attempts words r_old r_new w_old w_new result = (answer : Result Ask AskFault) × Answers words answer × Blames words answer × Does answer r_old r_new w_old w_new result
 
