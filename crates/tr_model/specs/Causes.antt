@@ -23,14 +23,17 @@ use Rattle.tr_model.specs.Waits.{led_groups, ready, ready_for_starter}
 
 -- The first cause that holds
 
+-- one call has one error: the earliest cause that holds hides those after it
 abbrev pub first : List (Option Refusal) → Option Refusal
 first [] = None
 first (None ∷ rest) = first rest
 first (Some why ∷ rest) = Some why
 
+-- a condition that has to hold, else the event is refused so
 abbrev pub unless : Bool → Refusal → Option Refusal
 unless holds why = if holds then None else Some why
 
+-- a condition that must not hold, else the event is refused so
 abbrev pub where_is : Bool → Refusal → Option Refusal
 where_is holds why = if holds then Some why else None
 
@@ -39,6 +42,7 @@ abbrev pub thread_then : Option Thread → (Thread → List (Option Refusal)) �
 thread_then None causes = Some Srch ∷ []
 thread_then (Some t) causes = causes t
 
+-- causes that are asked of the thread with this id; where the table has none, ESRCH alone
 abbrev pub with_thread : Table → ℕ → (Thread → List (Option Refusal)) → List (Option Refusal)
 with_thread T id causes = thread_then (thread_of T id) causes
 
@@ -58,9 +62,11 @@ traceable T t = unless (not (is_traced t) && is_live t.life && not (is_dying T t
 abbrev pub queue_full : Table → ℕ → Option Refusal
 queue_full T s = where_is (is_real_time s && nat_le T.limit (length T.waiting)) Again
 
+-- EINVAL for a number above 64; 0 passes, as it only asks whether the target is there
 abbrev pub no_signal : ℕ → Option Refusal
 no_signal s = where_is (nat_lt 64 s) Inval
 
+-- the thread exists and is of this group
 abbrev pub is_in : ℕ → Option Thread → Bool
 is_in g None = false
 is_in g (Some t) = t.group == g
@@ -69,6 +75,7 @@ is_in g (Some t) = t.group == g
 abbrev pub at_limit : Table → Thread → Bool
 at_limit T t = nat_le 1024 (length T.threads) || nat_le 64 (length (members T t.group))
 
+-- PTRACE_GETSIGINFO tells of a signal-delivery-stop alone: EINVAL at an attached tracee's group-stop, else outside this model
 abbrev pub no_siginfo : Life → Option Refusal
 no_siginfo (life.InStop (stop.Signal i came)) = None
 no_siginfo (life.InStop (stop.Group s)) = Some Inval
@@ -76,6 +83,7 @@ no_siginfo _ = Some Unmodelled
 
 -- The causes of each event, in their order
 
+-- the errors that an event can meet, first to last: those of its manual page, and the model's own
 abbrev pub causes : Table → ℕ → Event → List (Option Refusal)
 causes T a (event.Kill g s) = no_signal s ∷ unless (is_some (group_of T g)) Srch ∷ queue_full T s ∷ []
 causes T a (event.Tgkill g id s) = no_signal s ∷ unless (is_in g (thread_of T id)) Srch ∷ queue_full T s ∷ []
@@ -106,11 +114,13 @@ causes T a event.TracerExit = []
 causes T a (event.Wait which) = unless (list_any (λ t. asks_for which t.id) (tracees T a)) Child ∷ []
 causes T a (event.StarterWait which flags) = unless (a == 1 && not (is_empty (led_groups T which))) Child ∷ []
 
+-- why this actor's event is refused, or None where it isn't
 abbrev pub cause_of : Table → ℕ → Event → Option Refusal
 cause_of T a e = first (causes T a e)
 
 -- Answers without an entry
 
+-- the answer where there is nothing to take, no report to wait for or no tracee
 abbrev pub nothing_where : Bool → Option Reply
 nothing_where b = if b then Some reply.Nothing else None
 
@@ -118,26 +128,32 @@ nothing_where b = if b then Some reply.Nothing else None
 abbrev pub exists_where : ℕ → Option Reply
 exists_where s = if s == 0 then Some reply.Exists else None
 
+-- the thread exists, and a signal is pending that it can take now
 abbrev pub can_take_thread : Table → Option Thread → Bool
 can_take_thread T None = false
 can_take_thread T (Some t) = can_take T t
 
+-- the answer to PTRACE_GETEVENTMSG, at a stop that has a message
 abbrev pub message_reply : Option ℕ → Option Reply
 message_reply None = None
 message_reply (Some n) = Some (reply.Message n)
 
+-- the message of the ptrace-stop that the thread is in: the new id, the former id or the word of its end
 abbrev pub message_of : Option Thread → Option Reply
 message_of None = None
 message_of (Some t) = message_reply (message t.life)
 
+-- PTRACE_GETSIGINFO tells the signal of a held instance, and its code, sender and value
 abbrev pub siginfo : Option Instance → Option Reply
 siginfo None = None
 siginfo (Some i) = Some (reply.Signal i.sig i.info)
 
+-- the signal information of the instance that the thread's signal-delivery-stop holds, if it is in one
 abbrev pub siginfo_of : Option Thread → Option Reply
 siginfo_of None = None
 siginfo_of (Some t) = siginfo (held t.life)
 
+-- a probe by signal 0, a read of a ptrace-stop and an event that finds nothing to do are answered so; None where an entry is due
 abbrev pub quiet_of : Table → ℕ → Event → Option Reply
 quiet_of T a (event.Kill g s) = exists_where s
 quiet_of T a (event.Tgkill g id s) = exists_where s

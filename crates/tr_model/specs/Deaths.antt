@@ -15,6 +15,7 @@ abbrev pub first_end : Option End → End → End
 first_end None e = e
 first_end (Some old) e = old
 
+-- the group is dying with its first end; its group-stop is over, and its note for the starter is withdrawn
 abbrev pub dying_with : End → Group → Group
 dying_with e x = record x { end = Some (first_end x.end e); group_stop = No; note = None }
 

@@ -21,6 +21,7 @@ use Rattle.tr_model.specs.Moves.{Work, alter, at, drop_empty, end_waiting, enter
 abbrev pub exited : ℕ → End
 exited code = Exited (code % 256)
 
+-- the wait status of an end as waitpid(2) gives it; it is also the message of an exit stop
 abbrev pub word_of_end : End → ℕ
 word_of_end e = word (status_of_end e)
 
@@ -32,6 +33,7 @@ exit t code w =
     let x = alter (only t.id unmarked) w in
     if (options_of t.trace).exit then enter t.id (stop.Exit (word_of_end (exited code))) x else alter (only t.id (leaving (exited code))) x
 
+-- the group begins to die with this code, not as by a KILL: a tracee with option exit still has its exit stop
 abbrev pub exit_group : ℕ → Thread → Work → Work
 exit_group code t w = begin_death t.group (exited code) false w
 
@@ -41,6 +43,7 @@ exit_group code t w = begin_death t.group (exited code) false w
 abbrev pub told_end : Table → Thread → End → End
 told_end T t e = first_end (group_end T t.group) e
 
+-- how a dead thread itself ended; an exit with 0 only fills in for other lives
 abbrev pub end_of_dead : Life → End
 end_of_dead (life.Dead e) = e
 end_of_dead _ = Exited 0
@@ -60,9 +63,11 @@ bury t e w =
     else if is_traced t then report_death t.id (told_end w.table t e) w
     else remove_dead (λ x. x.id == t.id) w
 
+-- the thread is dead, and what was pending in its own queue is flushed
 abbrev pub dead_now : Thread → Work → Work
 dead_now t w = end_waiting Flushed (λ q. same_target (target.Thread t.id) q.target) (alter (only t.id dead) w)
 
+-- a group's end waits for all its threads to be dead, not for their tracers to have waited for them
 abbrev pub last : ℕ → Work → Work
 last g w = when (all_dead w.table g) (last_death g) w
 

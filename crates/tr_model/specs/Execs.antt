@@ -19,11 +19,13 @@ use Rattle.tr_model.specs.Moves.{Work, alter, at, become, enqueue, enter, only_g
 abbrev pub clone_stop : Thread → ℕ → Work → Work
 clone_stop t id w = when (not (seized t.trace)) (enqueue 19 (info (pos 0) 0 (pos 0)) (target.Thread id)) (enter t.id (stop.Clone id) w)
 
+-- the new thread has to stop too where a group-stop is in effect; with option clone the parent enters a ptrace-stop
 abbrev pub clone : Thread → ℕ → Work → Work
 clone t id w = when (options_of t.trace).clone (clone_stop t id) (spawn t.id id (is_some (stop_in_effect w.table t.group)) w)
 
 -- Exec
 
+-- handlers are lost with the old program: caught signals have their default action, ignored ones stay ignored
 abbrev pub with_reset : Group → Group
 with_reset x = record x { actions = map reset x.actions }
 

@@ -11,6 +11,7 @@ use Rattle.tr_model.specs.Moves.{Work, alter, each, note, only_group, regroup, w
 
 -- Beginning
 
+-- a group-stop by this signal, unless one is in effect: that keeps its signal, and stays complete if it was
 abbrev pub beginning : ℕ → Group → Group
 beginning s x = record x { group_stop = begun s x.group_stop }
 
@@ -20,6 +21,7 @@ initiate g s w = alter (throughout g marked) (regroup (only_group g (beginning s
 
 -- Continuing
 
+-- no group-stop is in effect any more, and the note for the starter is withdrawn, whatever it told
 abbrev pub ended_stop : Group → Group
 ended_stop x = record x { group_stop = No; note = None }
 
@@ -35,6 +37,7 @@ continue_all g w = when (is_some (stop_in_effect w.table g)) (end_stop g) (alter
 
 -- Completing
 
+-- the group-stop under way is complete, by the signal that began it
 abbrev pub full : Group → Group
 full x = record x { group_stop = completed x.group_stop }
 
@@ -43,6 +46,7 @@ abbrev pub note_stop : ℕ → Option ℕ → Work → Work
 note_stop g None w = w
 note_stop g (Some s) w = when (not (has_traced w.table g)) (note g (status.Stopped s)) w
 
+-- the group has stopped, and the starter may learn by which signal
 abbrev pub fill_stop : ℕ → Work → Work
 fill_stop g w = note_stop g (stop_in_effect w.table g) (regroup (only_group g full) w)
 

@@ -26,29 +26,36 @@ use Rattle.tr_model.specs.Moves.{Raise}
 
 -- Lists
 
+-- how often the number stands in the list
 abbrev pub occurs : ℕ → List ℕ → ℕ
 occurs n [] = 0
 occurs n (x ∷ xs) = (if x == n then 1 else 0) + occurs n xs
 
+-- the number is one of these
 abbrev pub IsIn : ℕ → List ℕ → Type 0
 IsIn n [] = ⊥
 IsIn n (x ∷ xs) = (x ≡ n) ⊎ IsIn n xs
 
+-- all threads of the list have the property
 abbrev pub Each : (Thread → Type 0) → List Thread → Type 0
 Each Q [] = Unit {0}
 Each Q (t ∷ ts) = Q t × Each Q ts
 
+-- all groups of the list have the property
 abbrev pub EachGroup : (Group → Type 0) → List Group → Type 0
 EachGroup Q [] = Unit {0}
 EachGroup Q (x ∷ xs) = Q x × EachGroup Q xs
 
+-- the thread ids, in the order of the threads
 abbrev pub ids_of : List Thread → List ℕ
 ids_of [] = []
 ids_of (t ∷ ts) = t.id ∷ ids_of ts
 
+-- no two threads of the table have one id
 abbrev pub DistinctIds : Table → Type 0
 DistinctIds T = (n : ℕ) → occurs n (ids_of T.threads) ≤ 1
 
+-- all that waits here was accepted after the signal with this number
 abbrev pub AllAbove : ℕ → List Waiting → Type 0
 AllAbove n [] = Unit {0}
 AllAbove n (q ∷ qs) = (n < q.instance.n) × AllAbove n qs
@@ -76,6 +83,7 @@ pub record IsFresh (t : Thread) : Type 0 where
   pub joined : t.joined ≡ false
   pub report : t.report ≡ None
 
+-- not dying, in no group-stop, and without a note for the starter
 pub record IsFreshGroup (x : Group) : Type 0 where
   pub group_stop : x.group_stop ≡ No
   pub end : x.end ≡ None
@@ -113,6 +121,7 @@ abbrev pub held_numbers : List Thread → List ℕ
 held_numbers [] = []
 held_numbers (t ∷ ts) = number_held (held t.life) ++ held_numbers ts
 
+-- which accepted signals were ended, by their numbers
 abbrev pub numbers_of : List Ending → List ℕ
 numbers_of [] = []
 numbers_of (e ∷ es) = e.number ∷ numbers_of es
@@ -122,10 +131,12 @@ abbrev pub ended_by : Table → List Entry → List Ending
 ended_by T [] = []
 ended_by T (e ∷ es) = (work_of T e).ended ++ ended_by (work_of T e).table es
 
+-- the fate by the first ending of the number, or None where nothing ended it
 abbrev pub ended_as : List Ending → ℕ → Option Fate
 ended_as [] n = None
 ended_as (e ∷ es) n = if e.number == n then Some e.fate else ended_as es n
 
+-- an accepted signal that nothing ended is pending
 abbrev pub or_pending : Option Fate → Fate
 or_pending None = Pending
 or_pending (Some f) = f
@@ -139,6 +150,7 @@ pub data HasFate (ended : List Ending) (U : Table) (n : ℕ) : Fate → Type 0 w
   still : IsIn n (waiting_numbers U.waiting ++ held_numbers U.threads) → HasFate ended U n Pending
   ended_so : {f : Fate} → (k : ℕ) → slice_get ended k ≡ Some (record { number = n; fate = f }) → HasFate ended U n f
 
+-- both pending, both merged, both delivered, both suppressed or both flushed
 abbrev pub same_fate : Fate → Fate → Bool
 same_fate Pending Pending = true
 same_fate Merged Merged = true
@@ -147,10 +159,12 @@ same_fate Suppressed Suppressed = true
 same_fate Flushed Flushed = true
 same_fate _ _ = false
 
+-- the number was accepted and has this fate; one that wasn't accepted has none
 abbrev pub is_fate : Fate → Option Fate → Bool
 is_fate f None = false
 is_fate f (Some g) = same_fate f g
 
+-- 1 for a number with this fate, 0 for any other
 abbrev pub counts : Fate → Option Fate → ℕ
 counts f o = if is_fate f o then 1 else 0
 
@@ -159,6 +173,7 @@ abbrev pub how_many : Table → List Entry → Table → Fate → ℕ → ℕ
 how_many T es U f zero = 0
 how_many T es U f (suc k) = counts f (fate_of T es U (suc k)) + how_many T es U f k
 
+-- how many signals were accepted by the last table, and how many of them have each fate
 abbrev pub totals : Table → List Entry → Table → Totals
 totals T es U = record {
   accepted = U.accepted;
@@ -171,6 +186,7 @@ totals T es U = record {
 
 -- Reports
 
+-- all reports that the entries raised, in order, also those since withdrawn or consumed
 abbrev pub raised_by : Table → List Entry → List Raise
 raised_by T [] = []
 raised_by T (e ∷ es) = (work_of T e).raises ++ raised_by (work_of T e).table es
@@ -180,6 +196,7 @@ abbrev pub WasRaised : ℕ → Option ℕ → List Raise → Type 0
 WasRaised r whom [] = ⊥
 WasRaised r whom (x ∷ xs) = ((x.number ≡ r) × (x.whom ≡ whom)) ⊎ WasRaised r whom xs
 
+-- the report that the choice names, if it names one
 abbrev pub chosen : Option ℕ → List ℕ
 chosen None = []
 chosen (Some r) = r ∷ []
@@ -195,23 +212,28 @@ abbrev pub consumer_of : ℕ → Event → Option ℕ
 consumer_of a (event.Wait which) = Some a
 consumer_of a _ = None
 
+-- what the entry's wait consumes: at most one report, and none where the entry is no wait
 abbrev pub consumed : Entry → List ℕ
 consumed e = consumed_of e.event e.choice
 
+-- the tracer whose wait the entry is; None for the starter's wait, and where the entry is no wait
 abbrev pub consumer : Entry → Option ℕ
 consumer e = consumer_of e.actor e.event
 
+-- all reports that waits of these entries consumed, in order
 abbrev pub consumed_by : List Entry → List ℕ
 consumed_by [] = []
 consumed_by (e ∷ es) = consumed e ++ consumed_by es
 
 -- Takes
 
+-- what a take took: its number in the order of acceptance, its signal, and whose queue it waited in
 pub record Taken : Type 0 where
   pub number : ℕ
   pub signal : ℕ
   pub queue : Target
 
+-- what was found in this queue goes before what was found in another
 abbrev pub taken_if : Target → Option Instance → Option Taken → Option Taken
 taken_if q None other = other
 taken_if q (Some i) other = Some (record { number = i.n; signal = i.sig; queue = q })
@@ -223,11 +245,13 @@ taken_by T (Some t) n =
     taken_if (target.Thread t.id) (numbered n (choices_from T t (target.Thread t.id)))
     (taken_if (target.Group t.group) (numbered n (choices_from T t (target.Group t.group))) None)
 
+-- the signal that a thread takes by the choice of a Take or TakeAny; other events take none
 abbrev pub taken_of : Table → Event → Choice → Option Taken
 taken_of T (event.Take id) c = taken_by T (thread_of T id) (number c.instance)
 taken_of T (event.TakeAny g) c = taken_by T (thread_of T (number c.thread)) (number c.instance)
 taken_of T _ c = None
 
+-- the signal that the entry takes at this table, if it is a take
 abbrev pub taken : Table → Entry → Option Taken
 taken T e = taken_of T e.event e.choice
 

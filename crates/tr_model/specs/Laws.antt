@@ -33,6 +33,7 @@ pub record OneFate (T : Table) (es : List Entry) (U : Table) : Type 0 where
   pub accepted : (n : ℕ) → 1 ≤ n → n ≤ U.accepted → occurs n (waiting_numbers U.waiting ++ held_numbers U.threads ++ numbers_of (ended_by T es)) ≡ 1
   pub others : (n : ℕ) → (n ≡ 0) ⊎ (U.accepted < n) → occurs n (waiting_numbers U.waiting ++ held_numbers U.threads ++ numbers_of (ended_by T es)) ≡ 0
 
+-- no signal is lost or doubled: after any journal each accepted one waits, is held or was ended, once
 abbrev pub EachSignalHasOneFate : Type 0
 EachSignalHasOneFate = (T U : Table) (es : List Entry) (rs : List Reply) → IsStart T → Replay T es rs U → OneFate T es U
 
@@ -45,6 +46,7 @@ FatesAgree = (T U : Table) (es : List Entry) (rs : List Reply) → IsStart T →
 abbrev pub EndedIsNotPending : Type 0
 EndedIsNotPending = (T U : Table) (es : List Entry) (rs : List Reply) → Replay T es rs U → (n : ℕ) → ended_as (ended_by T es) n ≢ Some Pending
 
+-- pending, merged, delivered, suppressed and flushed together are as many as were accepted
 abbrev pub FatesSumToAccepted : Type 0
 FatesSumToAccepted = (T U : Table) (es : List Entry) → let t = totals T es U in t.pending + t.merged + t.delivered + t.suppressed + t.flushed ≡ t.accepted
 
@@ -58,6 +60,7 @@ NoReportIsConsumedTwice = (T U : Table) (es : List Entry) (rs : List Reply) → 
 abbrev pub ConsumedWasRaised : Type 0
 ConsumedWasRaised = (T U V : Table) (es : List Entry) (rs : List Reply) (e : Entry) (x : Reply) → IsStart T → Replay T es rs U → Step U e x V → (r : ℕ) → IsIn r (consumed e) → WasRaised r (consumer e) (raised_by T es)
 
+-- the report, where there is one, was raised for this tracer or the starter, and no wait has consumed it
 abbrev pub IsOpenReport : Table → List Entry → Option ℕ → Option Report → Type 0
 IsOpenReport T es whom None = Unit {0}
 IsOpenReport T es whom (Some r) = WasRaised r.number whom (raised_by T es) × (occurs r.number (consumed_by es) ≡ 0)
@@ -95,10 +98,12 @@ IsRestart id a g T b _ = ⊥
 abbrev pub Restarts : ℕ → ℕ → ℕ → Table → Entry → Type 0
 Restarts id a g T e = IsRestart id a g T e.actor e.event ⊎ IsIn g (work_of T e).dying
 
+-- one of the entries, at the table that it finds, is such a restart or begins the group's death
 abbrev pub SomeRestarts : ℕ → ℕ → ℕ → Table → List Entry → Type 0
 SomeRestarts id a g T [] = ⊥
 SomeRestarts id a g T (e ∷ es) = Restarts id a g T e ⊎ SomeRestarts id a g (work_of T e).table es
 
+-- between two tracers' waits that consume stop reports of one thread id, an entry restarts it in one of these ways
 abbrev pub RestartStandsBetween : Type 0
 RestartStandsBetween =
     (S T M U : Table) (first between : List Entry) (qs rs : List Reply) (e f : Entry) (x : Reply) (t u : Thread)
@@ -107,6 +112,7 @@ RestartStandsBetween =
 
 -- The killed only die
 
+-- each thread of the group is told to leave or is dead, so none has an exit stop before it
 abbrev pub OnlyDying : ℕ → Table → Type 0
 OnlyDying g T = Each (λ t. t.group ≡ g → is_told t.life ≡ true) T.threads
 
@@ -131,6 +137,7 @@ TakesAreInOrder =
 
 -- What a kernel leans on
 
+-- after any journal an id is one thread's alone, though a clone gives ids and execve(2) hands the leader's on
 abbrev pub IdsAreDistinct : Type 0
 IdsAreDistinct = (T U : Table) (es : List Entry) (rs : List Reply) → IsStart T → Replay T es rs U → DistinctIds U
 
@@ -150,6 +157,7 @@ pub record IsBounded (T U : Table) : Type 0 where
   pub raised_grows : T.raised ≤ U.raised
   pub raises_few : U.raised ≤ T.raised + 2048
 
+-- each step of a journal accepts at most 1,024 signals and raises at most 2,048 reports; neither count falls
 abbrev pub EntriesAreBounded : Type 0
 EntriesAreBounded = (T U V : Table) (es : List Entry) (rs : List Reply) (e : Entry) (x : Reply) → IsStart T → Replay T es rs U → Step U e x V → IsBounded U V
 
@@ -165,6 +173,7 @@ pub record IsCause (why : Refusal) : Type 0 where
   pub full : why ≢ JournalFull
   pub threaded : why ≢ ThreadedExec
 
+-- the model itself refuses no event as NoMemory, JournalFull or ThreadedExec
 abbrev pub CausesAreCauses : Type 0
 CausesAreCauses = (T : Table) (a : ℕ) (e : Event) (why : Refusal) → cause_of T a e ≡ Some why → IsCause why
 
