@@ -37,18 +37,22 @@ pub record Work : Type 0 where
   pub killed : List ℕ
   pub renamed : List ℕ
 
+-- a step begins at a table, with nothing ended, raised, killed or renamed yet
 abbrev pub begin : Table → Work
 begin T = record { table = T; ended = []; raises = []; dying = []; killed = []; renamed = [] }
 
 -- Moves joined
 
+-- the move where the condition holds, else nothing changes
 abbrev pub when : Bool → (Work → Work) → Work → Work
 when b move w = if b then move w else w
 
+-- the move for one number after the other, each at the table that the earlier ones left
 abbrev pub each : List ℕ → (ℕ → Work → Work) → Work → Work
 each [] move w = w
 each (x ∷ xs) move w = each xs move (move x w)
 
+-- a move of a thread that may not be there; then nothing changes
 abbrev pub on_thread : Option Thread → (Thread → Work → Work) → Work → Work
 on_thread None move w = w
 on_thread (Some t) move w = move t w
@@ -57,6 +61,7 @@ on_thread (Some t) move w = move t w
 abbrev pub at : ℕ → (Thread → Work → Work) → Work → Work
 at id move w = on_thread (thread_of w.table id) move w
 
+-- a move with an instance that may not be there; then nothing changes
 abbrev pub on_instance : Option Instance → (Instance → Work → Work) → Work → Work
 on_instance None move w = w
 on_instance (Some i) move w = move i w
@@ -79,6 +84,7 @@ endings fate None after = []
 endings fate (Some i) None = record { number = i.n; fate = fate } ∷ []
 endings fate (Some i) (Some j) = []
 
+-- what a signal-delivery-stop held ends with this fate, where f takes the thread out of that stop
 abbrev pub ends : Fate → (Thread → Thread) → Thread → List Ending
 ends fate f t = endings fate (held t.life) (held (f t).life)
 
@@ -110,12 +116,15 @@ raising f t s w =
       raises = w.raises ++ record { number = w.table.raised + 1; whom = tracer_of t.trace; id = t.id; status = s } ∷ [];
     }
 
+-- the next report, on a thread that is otherwise left as it is
 abbrev pub raise : Thread → Status → Work → Work
 raise t s w = raising (reported (w.table.raised + 1) s) t s w
 
+-- the thread is in the ptrace-stop, with the wait status of that stop as its next report
 abbrev pub entered_now : Stop → Thread → Work → Work
 entered_now s t w = raising (entered_as (w.table.raised + 1) s) t (status_of_stop s) w
 
+-- a thread that is in a ptrace-stop, told to leave, dead or in execve(2) enters none
 abbrev pub entering : Stop → Thread → Work → Work
 entering s t w = if may_enter t.life then entered_now s t w else w
 
@@ -123,6 +132,7 @@ entering s t w = if may_enter t.life then entered_now s t w else w
 abbrev pub enter : ℕ → Stop → Work → Work
 enter id s w = at id (entering s) w
 
+-- only a dead thread has a death report; the end that it tells may be the group's
 abbrev pub report_dead : End → Thread → Work → Work
 report_dead e t w = if is_dead t.life then raise t (status_of_end e) w else w
 
@@ -130,9 +140,11 @@ report_dead e t w = if is_dead t.life then raise t (status_of_end e) w else w
 abbrev pub report_death : ℕ → End → Work → Work
 report_death id e w = at id (report_dead e) w
 
+-- a new thread comes last in the table
 abbrev pub added : Thread → Work → Work
 added t w = record w { table = record w.table { threads = w.table.threads ++ t ∷ [] } }
 
+-- only a free thread has a child, which is of its thread group
 abbrev pub spawned : ℕ → Bool → Thread → Work → Work
 spawned id stop_mark t w = if is_free t.life then added (child id stop_mark t) w else w
 
@@ -144,19 +156,24 @@ spawn parent id stop_mark w = at parent (spawned id stop_mark) w
 abbrev pub remove_dead : (Thread → Bool) → Work → Work
 remove_dead p w = record w { table = record w.table { threads = filter (λ t. not (p t && is_dead t.life)) w.table.threads } }
 
+-- a thread's own queue goes with it to its new id; a shared queue stays that of its group
 abbrev pub aimed : ℕ → ℕ → Target → Target
 aimed from to (target.Thread id) = if id == from then target.Thread to else target.Thread id
 aimed from to (target.Group g) = target.Group g
 
+-- an instance that waits for the former id waits for the new one, and keeps its place in the order
 abbrev pub reaimed : ℕ → ℕ → Waiting → Waiting
 reaimed from to q = record q { target = aimed from to q.target }
 
+-- the thread has another id, and a report under its former one is withdrawn
 abbrev pub renamed : ℕ → Thread → Thread
 renamed id t = record t { id = id; report = None }
 
+-- the row of the dead leader becomes that of the thread, with the leader's id; every other row stays
 abbrev pub in_place : Thread → Thread → Thread
 in_place t x = if x.id == t.group && is_dead x.life then renamed t.group t else x
 
+-- the thread leaves its own row for the dead leader's, what waits for it goes along, and the log has the id that it took
 abbrev pub placed : Thread → Work → Work
 placed t w =
     record w {
@@ -167,6 +184,7 @@ placed t w =
       renamed = w.renamed ++ t.group ∷ [];
     }
 
+-- execve(2) by another thread than the leader; an execing leader has its place already
 abbrev pub taking_place : Thread → Work → Work
 taking_place t w = if is_execing t.life && not (is_leader t) then placed t w else w
 
@@ -176,9 +194,11 @@ take_place id w = at id taking_place w
 
 -- Groups
 
+-- f at the group with the id
 abbrev pub only_group : ℕ → (Group → Group) → Group → Group
 only_group g f x = if x.tgid == g then f x else x
 
+-- each group becomes what f makes of it
 abbrev pub regroup : (Group → Group) → Work → Work
 regroup f w = record w { table = record w.table { groups = map f w.table.groups } }
 
@@ -187,6 +207,7 @@ abbrev pub group_changed : ℕ → (Group → Group) → List Group → List Gro
 group_changed g f [] = []
 group_changed g f (x ∷ xs) = if x.tgid == g then f x ∷ xs else x ∷ group_changed g f xs
 
+-- a note for the starter replaces an older one that no wait has consumed
 abbrev pub with_note : ℕ → Status → Group → Group
 with_note n s x = record x { note = Some (record { number = n; status = s }) }
 
@@ -198,6 +219,7 @@ note g s w =
       raises = w.raises ++ record { number = w.table.raised + 1; whom = None; id = g; status = s } ∷ [];
     }
 
+-- every other group, and this one while a thread of it, dead or not, is in the table
 abbrev pub stays : ℕ → Work → Group → Bool
 stays g w x = not (x.tgid == g) || list_any (in_group g) w.table.threads
 
@@ -215,6 +237,7 @@ tell_killed g w = record w { killed = w.killed ++ g ∷ [] }
 
 -- Instances
 
+-- an accepted signal has the next number, counted over the whole kernel
 abbrev pub next_instance : ℕ → Info → Work → Instance
 next_instance s info w = record { n = w.table.accepted + 1; sig = s; info = info }
 
@@ -236,6 +259,7 @@ accept_as fate w =
       ended = w.ended ++ record { number = w.table.accepted + 1; fate = fate } ∷ [];
     }
 
+-- an instance that waited has this fate
 abbrev pub ending_of : Fate → Waiting → Ending
 ending_of fate q = record { number = q.instance.n; fate = fate }
 
@@ -247,17 +271,21 @@ end_waiting fate p w =
       ended = w.ended ++ map (ending_of fate) (filter p w.table.waiting);
     }
 
+-- the instance with the number, whichever queue it waits in
 abbrev pub instance_in : List Waiting → ℕ → Option Instance
 instance_in [] n = None
 instance_in (q ∷ qs) n = if q.instance.n == n then Some q.instance else instance_in qs n
 
+-- without the first instance with the number; the others keep their order
 abbrev pub without_instance : ℕ → List Waiting → List Waiting
 without_instance n [] = []
 without_instance n (q ∷ qs) = if q.instance.n == n then qs else q ∷ without_instance n qs
 
+-- the instance leaves its queue but hasn't ended: its fate is still pending
 abbrev pub pulled : Instance → Work → Work
 pulled i w = record w { table = record w.table { waiting = without_instance i.n w.table.waiting } }
 
+-- the stop of a free thread takes the instance out of its queue; no SIGCONT came during that stop yet
 abbrev pub holding : Thread → Instance → Work → Work
 holding t i w = if is_free t.life then entering (stop.Signal i false) t (pulled i w) else w
 

@@ -20,6 +20,7 @@ use Rattle.tr_model.specs.Moves.{Work, accept_as, alter, at, changing, each, whe
 
 -- Tracing
 
+-- the actor is the tracer, attached or seized, with these options; a thread that has a tracer keeps it
 abbrev pub trace : ℕ → Bool → Options → Thread → Work → Work
 trace a is_seized o t w = alter (only t.id (traced_by (record { tracer = a; seized = is_seized; options = o }))) w
 
@@ -37,6 +38,7 @@ seize a o t w = show_stop t (trace a true o t w)
 abbrev pub resume : Fate → Thread → Work → Work
 resume fate t w = changing fate restarted t w
 
+-- the tracer as the sender that an injected signal tells, 0 where there is none
 abbrev pub tracer_number : Option ℕ → ℕ
 tracer_number None = 0
 tracer_number (Some a) = a
@@ -56,6 +58,7 @@ restart_held t s (Some i) w =
     else if s == i.sig then act_on t s (cont_came t.life) (resume Delivered t w)
     else inject t s (resume Suppressed t w)
 
+-- PTRACE_CONT: the number counts in a signal-delivery-stop alone, from every other stop it is ignored
 abbrev pub restart : ℕ → Thread → Work → Work
 restart s t w = restart_held t s (held t.life) w
 
@@ -65,6 +68,7 @@ listen t w = changing Flushed listening t w
 
 -- The end of tracing
 
+-- a thread in no ptrace-stop is untraced, and where a group-stop is in effect, stopped if it ran or listened
 abbrev pub untrace : Thread → Work → Work
 untrace t w = alter (only t.id (untraced (is_some (stop_in_effect w.table t.group)))) w
 
@@ -72,6 +76,7 @@ untrace t w = alter (only t.id (untraced (is_some (stop_in_effect w.table t.grou
 abbrev pub detach : ℕ → Thread → Work → Work
 detach s t w = untrace t (restart s t w)
 
+-- the signal that a signal-delivery-stop holds, 0 for a thread that holds none
 abbrev pub held_signal : Option Instance → ℕ
 held_signal None = 0
 held_signal (Some i) = i.sig
@@ -83,6 +88,7 @@ leave_tracer t w =
     then if is_leader t then pass_on t t.report w else remove_thread t w
     else detach (held_signal (held t.life)) t w
 
+-- only a thread that the actor still traces is left by it
 abbrev pub lose_tracer : ℕ → Thread → Work → Work
 lose_tracer a t w = when (is_tracee_of a t) (leave_tracer t) w
 
@@ -90,12 +96,15 @@ lose_tracer a t w = when (is_tracee_of a t) (leave_tracer t) w
 abbrev pub exit_kill : Thread → Work → Work
 exit_kill t w = kill_group t.group (accept_as Delivered w)
 
+-- tracees are gone through by id, so that each is found as the moves before left it
 abbrev pub ids : List Thread → List ℕ
 ids ts = map (λ t. t.id) ts
 
+-- all tracees of the actor, in table order; dead ones that nobody has waited for are among them
 abbrev pub tracees : Table → ℕ → List Thread
 tracees T a = filter (is_tracee_of a) T.threads
 
+-- the tracees with PTRACE_O_EXITKILL that aren't dead
 abbrev pub to_kill : Table → ℕ → List Thread
 to_kill T a = filter (λ t. (options_of t.trace).exitkill && not (is_dead t.life)) (tracees T a)
 

@@ -17,6 +17,7 @@ pub data Answer : Type 0 where
   Read : Reply → Answer
   Refused : Refusal → Answer
 
+-- an event that an actor asks for; its choice isn't made yet
 pub record Call : Type 0 where
   pub actor : ℕ
   pub event : Event
@@ -27,12 +28,15 @@ pub record State : Type 0 where
   pub journal : List Entry
   pub answers : List Answer
 
+-- a run begins at a table, with an empty journal and without answers
 abbrev pub begun_at : Table → State
 begun_at T = record { table = T; journal = []; answers = [] }
 
+-- an answer that makes no entry: table and journal stay as they are
 abbrev pub answered : Answer → State → State
 answered x s = record s { answers = s.answers ++ x ∷ [] }
 
+-- the entry is the journal's last, the table is the one that its step leads to, and its reply is the answer
 abbrev pub entered : State → Entry → State
 entered s e =
     let x = after s.table e in
@@ -53,15 +57,19 @@ made s c (Ok (Due x)) = unless_full s (record { actor = c.actor; event = c.event
 abbrev pub Check : Type 0
 Check = Table → ℕ → Event → Result Checked Refusal
 
+-- a call is checked at the table as it stands when its turn comes
 abbrev pub call_by : Check → State → Call → State
 call_by check s c = made s c (check s.table c.actor c.event)
 
+-- one call after the other, each at the table that the earlier ones left
 abbrev pub calls_by : Check → State → List Call → State
 calls_by check s [] = s
 calls_by check s (c ∷ cs) = calls_by check (call_by check s c) cs
 
+-- one call, by the model's own check
 abbrev pub call : State → Call → State
 call = call_by check
 
+-- all calls from a table on, by the model's own check
 abbrev pub run : Table → List Call → State
 run T cs = calls_by check (begun_at T) cs

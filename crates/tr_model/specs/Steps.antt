@@ -35,21 +35,27 @@ use Rattle.tr_model.specs.Moves.{Work, alter, at, begin, instance_in, on_thread}
 
 -- Free choices
 
+-- the choice of an event that leaves nothing open
 abbrev pub no_choice : Choice
 no_choice = record { thread = None; instance = None; report = None; new_id = None }
 
+-- Take: which instance
 abbrev pub takes_instance : ℕ → Choice
 takes_instance n = record { thread = None; instance = Some n; report = None; new_id = None }
 
+-- TakeAny: which thread takes, and which instance
 abbrev pub takes_by : ℕ → ℕ → Choice
 takes_by id n = record { thread = Some id; instance = Some n; report = None; new_id = None }
 
+-- a wait: which report
 abbrev pub gives_report : ℕ → Choice
 gives_report r = record { thread = None; instance = None; report = Some r; new_id = None }
 
+-- clone(2): the id of the new thread
 abbrev pub gives_id : ℕ → Choice
 gives_id id = record { thread = None; instance = None; report = None; new_id = Some id }
 
+-- the thread is in the table and can take the instance with this number
 abbrev pub takes : Table → Option Thread → ℕ → Bool
 takes T None n = false
 takes T (Some t) n = is_some (numbered n (choices T t))
@@ -69,6 +75,7 @@ Admits T a _ c = c ≡ no_choice
 
 -- What an entry does
 
+-- what was chosen, 0 where the choice has no such number
 abbrev pub number : Option ℕ → ℕ
 number None = 0
 number (Some n) = n
@@ -110,6 +117,7 @@ work_of T e = settle (does e.actor e.event e.choice (begin T))
 
 -- Replies, by the table before and the work done
 
+-- the fate of the number by what the step ended; what it didn't end is pending
 abbrev pub fate_in : List Ending → ℕ → Fate
 fate_in [] n = Pending
 fate_in (e ∷ es) n = if e.number == n then e.fate else fate_in es n
@@ -118,23 +126,28 @@ fate_in (e ∷ es) n = if e.number == n then e.fate else fate_in es n
 abbrev pub sent : Table → Work → Reply
 sent T w = reply.Sent (T.accepted + 1) (fate_in w.ended (T.accepted + 1))
 
+-- which thread took which instance, and what it did with it
 abbrev pub took : Table → Option Thread → Option Instance → Reply
 took T None i = reply.Nothing
 took T (Some t) None = reply.Nothing
 took T (Some t) (Some i) = reply.Took t.id i (Takes.took T t i)
 
+-- the id that a wait names, its wait status as a word, and the number of the report
 abbrev pub waited : ℕ → Option Report → Reply
 waited id None = reply.Nothing
 waited id (Some r) = reply.Waited id (word r.status) r.number
 
+-- the starter's wait for a note names the group
 abbrev pub waited_note : Option Group → Reply
 waited_note None = reply.Nothing
 waited_note (Some g) = waited g.tgid g.note
 
+-- a wait tells of the thread whose report it gives, else of the group whose note it gives
 abbrev pub waited_thread : Option Thread → Option Group → Reply
 waited_thread (Some t) g = waited t.id t.report
 waited_thread None g = waited_note g
 
+-- a send, an attach, a take, a clone and a wait tell what came of them; any other entry is Done
 abbrev pub reply_of : Table → ℕ → Event → Choice → Work → Reply
 reply_of T a (event.Kill g s) c w = sent T w
 reply_of T a (event.Tgkill g id s) c w = sent T w
@@ -149,10 +162,12 @@ reply_of T a _ c w = reply.Done
 
 -- The step relation
 
+-- what an entry leads to: the reply, and the work with the next table and the log
 pub record Outcome : Type 0 where
   pub reply : Reply
   pub work : Work
 
+-- the reply to an entry and the work that it does, both determined by table and entry
 abbrev pub after : Table → Entry → Outcome
 after T e = let w = work_of T e in record { reply = reply_of T e.actor e.event e.choice w; work = w }
 

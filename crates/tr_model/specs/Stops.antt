@@ -31,9 +31,11 @@ abbrev pub trap_at : Thread → Option ℕ → Work → Work
 trap_at t None w = enter t.id (stop.Event stop_sig.Trap) w
 trap_at t (Some s) w = enter t.id (stop.Event (stop_sig_of s)) (alter (only t.id joining) w)
 
+-- PTRACE_EVENT_STOP shows the signal of the group-stop in effect, or SIGTRAP where there is none
 abbrev pub trap : Thread → Work → Work
 trap t w = trap_at t (stop_in_effect w.table t.group) w
 
+-- the thread enters the stop of the group-stop in effect, attached or seized as it is now
 abbrev pub show : Thread → Work → Work
 show t w = at t.id (λ u. at_stop (stop_in_effect w.table t.group) (stop_with u)) w
 

@@ -34,6 +34,7 @@ goes_before i j =
     || (is_real_time i.sig && nat_lt i.sig j.sig)
     || (i.sig == j.sig && nat_lt i.n j.n)
 
+-- those whose signal the mask doesn't block
 abbrev pub unblocked : SigSet → List Instance → List Instance
 unblocked mask is = filter (λ i. not (has mask i.sig)) is
 
@@ -49,19 +50,23 @@ choices_from T t q = if is_ready_to_take t then choices_in (unblocked t.mask (qu
 abbrev pub choices : Table → Thread → List Instance
 choices T t = choices_from T t (target.Thread t.id) ++ choices_from T t (target.Group t.group)
 
+-- there is none: nothing to take, nothing ready, no tracee
 abbrev pub is_empty : {A : Type 0} → List A → Bool
 is_empty [] = true
 is_empty (x ∷ xs) = false
 
+-- the thread is free, has no mark, and something that it doesn't block is pending for it or its group
 abbrev pub can_take : Table → Thread → Bool
 can_take T t = not (is_empty (choices T t))
 
+-- the instance with this number, if it is among these
 abbrev pub numbered : ℕ → List Instance → Option Instance
 numbered n [] = None
 numbered n (i ∷ is) = if i.n == n then Some i else numbered n is
 
 -- Acting
 
+-- Term and Core end the group, Stop initiates a group-stop; what SIGCONT does was done when it was sent
 abbrev pub did_by_default : Base → Did
 did_by_default base.Term = did.Dying
 did_by_default base.Core = did.Dying
@@ -83,14 +88,17 @@ act t s came did.Stopping w = when (not came) (initiate t.group s) w
 act t s came did.Dying w = if s == 9 then kill_group t.group w else begin_death t.group (Killed s) false w
 act t s came did.Reported w = w
 
+-- the action is that of the thread group; came says that a SIGCONT came during the signal-delivery-stop
 abbrev pub act_on : Thread → ℕ → Bool → Work → Work
 act_on t s came w = act t s came (did_of (action_of w.table t.group s) s) w
 
 -- Taking
 
+-- a tracee's signal is reported to its tracer, whatever the action; an untraced thread does as the action says
 abbrev pub took : Table → Thread → Instance → Did
 took T t i = if is_traced t then did.Reported else did_of (action_of T t.group i.sig) i.sig
 
+-- the instance is pending no more: delivered
 abbrev pub deliver : ℕ → Work → Work
 deliver n w = end_waiting Delivered (λ q. q.instance.n == n) w
 
@@ -98,6 +106,7 @@ deliver n w = end_waiting Delivered (λ q. q.instance.n == n) w
 abbrev pub take : Thread → Instance → Work → Work
 take t i w = if is_traced t then hold t.id i.n w else act_on t i.sig false (deliver i.n w)
 
+-- a number that isn't among what the thread can take changes nothing
 abbrev pub take_numbered : ℕ → Thread → Work → Work
 take_numbered n t w = on_instance (numbered n (choices w.table t)) (take t) w
 
