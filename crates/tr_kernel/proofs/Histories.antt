@@ -11,7 +11,7 @@ use Rattle.tr_model.specs.declared.fates.Fate.{Fate}
 use Rattle.tr_model.specs.declared.fates.Fate.TheVariants.{Pending, Merged, Delivered, Suppressed, Flushed}
 use Rattle.tr_model.specs.declared.replies.Reply.{Reply}
 use Rattle.tr_model.specs.Laws.{OneFate}
-use Rattle.tr_model.proofs.Reports.{consumed_once}
+use Rattle.tr_model.proofs.Consumed.{consumed_once}
 use Rattle.tr_model.proofs.Tally.{fates_agree}
 use Rattle.tr_model.specs.Journals.{HasFate, consumed_by, fate_of, how_many, or_pending, totals, Replay, ended_as, ended_by, held_numbers, numbers_of, occurs, waiting_numbers}
 use Rattle.tr_model.specs.Preferred.{check, preferred}

@@ -11,7 +11,7 @@ use Rattle.tr_model.specs.Journals.{IsIn, consumed, consumed_by, consumed_of, oc
 use Rattle.tr_model.specs.Steps.{Admits}
 use Rattle.tr_model.specs.Tables.{Table}
 use Rattle.tr_model.proofs.OneFate.{occurs-append}
-use Rattle.tr_model.proofs.Reports.{consumed_once, consumed_was_raised}
+use Rattle.tr_model.proofs.Consumed.{consumed_once, consumed_was_raised}
 use Rattle.tr_table.specs.Starts.{table_of}
 use Rattle.tr_kernel.specs.Laws.{IsWait, RaisedBefore, WaitsAt, consumed_at, report_by, report_of}
 use Rattle.tr_kernel.specs.Positions.{entry_at, table_at}

@@ -8,7 +8,7 @@ use Rattle.tr_model.proofs.Every.{each_weaker}
 use Rattle.tr_model.proofs.Ids.{Distinct, has_id, moves-distinct}
 use Rattle.tr_model.proofs.Spoken.{Speaks, Spoken, moves-spoken, silent}
 use Rattle.tr_model.proofs.Restart.{WaitsFor, restart_between}
-use Rattle.tr_model.proofs.Reports.{found_in, member_filter, each_member, Member}
+use Rattle.tr_model.proofs.Consumed.{found_in, member_filter, each_member, Member}
 use Rattle.tr_model.proofs.Kept.{always-kept}
 use Rattle.tr_model.proofs.OneFate.{one}
 use Rattle.tr_model.proofs.Measures.{total}

@@ -13,7 +13,8 @@ use Rattle.tr_model.specs.Tables.{Table}
 use Rattle.tr_model.proofs.Between.{Sane, entry_sane, ids_total, replay_keeps, start_sane}
 use Rattle.tr_model.proofs.Measures.{total}
 use Rattle.tr_model.proofs.OneFate.{one_fate}
-use Rattle.tr_model.proofs.Reports.{Owned, OwnedNote, RaisedFor, is_report, notes, one, replay_standing, reports, start_standing, upto_one}
+use Rattle.tr_model.proofs.Consumed.{replay_standing, start_standing, upto_one}
+use Rattle.tr_model.proofs.Reports.{Owned, OwnedNote, RaisedFor, is_report, notes, one, reports}
 
 -- Numbers
 

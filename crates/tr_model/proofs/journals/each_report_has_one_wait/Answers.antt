@@ -1,4 +1,4 @@
-use Rattle.tr_model.proofs.Reports.{consumed_once, consumed_was_raised}
+use Rattle.tr_model.proofs.Consumed.{consumed_once, consumed_was_raised}
 use Rattle.tr_model.proofs.Standing.{reports_are_open}
 use Rattle.tr_model.proofs.journals.each_report_has_one_wait.Goals as goal
 
