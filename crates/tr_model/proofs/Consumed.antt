@@ -10,7 +10,8 @@ use Rattle.tr_model.specs.declared.events.Event.TheVariants as event
 use Rattle.tr_model.specs.declared.events.Entry.{Entry}
 use Rattle.tr_model.specs.declared.replies.Reply.{Reply}
 use Rattle.tr_model.proofs.Every.{each_filter}
-use Rattle.tr_model.proofs.Kept.{Tame, CalmGroup, any, any_of, calm_group, without_note, tame_only, tame_released, tame_told_nothing, tracer_is, always-kept, settle-kept}
+use Rattle.tr_model.proofs.Calm.{Tame, CalmGroup, calm_group, without_note, tame_only, tame_released, tame_told_nothing}
+use Rattle.tr_model.proofs.Kept.{any, any_of, tracer_is, always-kept, settle-kept}
 use Rattle.tr_model.proofs.Measures.{total, total_less, total_filter}
 use Rattle.tr_model.specs.declared.rows.Group.{Group}
 use Rattle.tr_wait.specs.declared.waits.Which.{Which}

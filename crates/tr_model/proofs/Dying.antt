@@ -12,7 +12,8 @@ use Rattle.tr_tracee.specs.declared.thread.Thread.{Thread}
 use Rattle.tr_model.specs.declared.events.Entry.{Entry}
 use Rattle.tr_model.specs.declared.replies.Reply.{Reply}
 use Rattle.tr_model.proofs.Every.{each_map, each-append, each_filter, each_found, each_changed, each_dropped, is_in-append}
-use Rattle.tr_model.proofs.Kept.{Calm, Kept, any, any_of, always-kept, calm_throughout, calm_broken, calm_broken_by_exec, calm_restarted, calm_listening, itself}
+use Rattle.tr_model.proofs.Calm.{Calm, calm_throughout, calm_broken, calm_broken_by_exec, calm_restarted, calm_listening}
+use Rattle.tr_model.proofs.Kept.{Kept, any, any_of, always-kept, itself}
 use Rattle.tr_model.proofs.Measures.{free_may}
 use Rattle.tr_model.specs.Journals.{Each, IsIn}
 use Rattle.tr_model.specs.Laws.{OnlyDying}

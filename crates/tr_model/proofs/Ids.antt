@@ -7,7 +7,8 @@ use Rattle.tr_tracee.specs.declared.life.End.TheVariants as ending
 use Rattle.tr_tracee.specs.declared.life.Stop.{Stop}
 use Rattle.tr_tracee.specs.declared.life.Stop.TheVariants as stop
 use Rattle.tr_tracee.specs.declared.thread.Thread.{Thread}
-use Rattle.tr_model.proofs.Kept.{Calm, Kept, any, any_of, calm_throughout, calm_broken, calm_broken_by_exec, itself}
+use Rattle.tr_model.proofs.Calm.{Calm, calm_throughout, calm_broken, calm_broken_by_exec}
+use Rattle.tr_model.proofs.Kept.{Kept, any, any_of, itself}
 use Rattle.tr_model.proofs.OneFate.{one}
 use Rattle.tr_model.proofs.Measures.{total, total-append, total_changed, total_dropped, total_same, total_filter}
 use Rattle.tr_model.specs.Moves.{Raise, Work}

@@ -12,7 +12,8 @@ use Rattle.tr_model.specs.declared.events.Entry.{Entry}
 use Rattle.tr_model.specs.declared.fates.Fate.{Fate}
 use Rattle.tr_model.specs.declared.fates.Fate.TheVariants.{Flushed}
 use Rattle.tr_model.specs.declared.replies.Reply.{Reply}
-use Rattle.tr_model.proofs.Kept.{Calm, Tame, Kept, any, any_of, always-kept, calm_throughout, calm_broken, calm_broken_by_exec, calm_restarted, calm_listening, itself}
+use Rattle.tr_model.proofs.Calm.{Calm, Tame, calm_throughout, calm_broken, calm_broken_by_exec, calm_restarted, calm_listening}
+use Rattle.tr_model.proofs.Kept.{Kept, any, any_of, always-kept, itself}
 use Rattle.tr_model.proofs.Measures.{total, total-append, total_changed, total_dropped, total_same, total_removed, may_enter_holds, free_may, dead_holds, execing_holds}
 use Rattle.tr_model.specs.declared.rows.Waiting.{Waiting}
 use Rattle.tr_model.specs.declared.fates.Ending.{Ending}

@@ -11,7 +11,8 @@ use Rattle.tr_tracee.specs.declared.thread.Thread.{Thread}
 use Rattle.tr_model.specs.declared.fates.Fate.{Fate}
 use Rattle.tr_model.specs.declared.fates.Fate.TheVariants.{Flushed}
 use Rattle.tr_model.proofs.Every.{each_map, each_weaker, each-append, each_filter, each_found, each_changed, each_dropped}
-use Rattle.tr_model.proofs.Kept.{Calm, CalmGroup, Kept, any, any_of, calm_throughout, calm_broken, calm_broken_by_exec, calm_restarted, calm_listening, calm_group, without_note, itself}
+use Rattle.tr_model.proofs.Calm.{Calm, CalmGroup, calm_throughout, calm_broken, calm_broken_by_exec, calm_restarted, calm_listening, calm_group, without_note}
+use Rattle.tr_model.proofs.Kept.{Kept, any, any_of, itself}
 use Rattle.tr_model.proofs.Measures.{total, total-append, total_changed, total_dropped, total_less, total_filter}
 use Rattle.tr_model.specs.declared.rows.Group.{Group}
 use Rattle.tr_model.specs.Journals.{Each, EachGroup, WasRaised, occurs}

@@ -21,7 +21,8 @@ use Rattle.tr_model.specs.declared.fates.Fate.TheVariants.{Flushed}
 use Rattle.tr_model.specs.declared.replies.Reply.{Reply}
 use Rattle.tr_model.proofs.Consumed.{found_in, member_filter, here}
 use Rattle.tr_wait.specs.declared.waits.Which.{Which}
-use Rattle.tr_model.proofs.Kept.{Leave, leave, found_id, entry-kept, admits_new, MayRestart, MayExec, Calm, Tame, Kept, calm_throughout, calm_broken, calm_broken_by_exec, calm_restarted, calm_listening, tame_only, tame_told_nothing, tracer_is, itself}
+use Rattle.tr_model.proofs.Calm.{Calm, Tame, calm_throughout, calm_broken, calm_broken_by_exec, calm_restarted, calm_listening, tame_only, tame_told_nothing}
+use Rattle.tr_model.proofs.Kept.{Leave, leave, found_id, entry-kept, admits_new, MayRestart, MayExec, Kept, tracer_is, itself}
 use Rattle.tr_model.specs.Journals.{IsIn}
 use Rattle.tr_model.specs.Laws.{IsRestart, Restarts, SomeRestarts}
 use Rattle.tr_model.specs.Moves.{Raise, Work}

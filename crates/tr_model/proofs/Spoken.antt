@@ -9,7 +9,8 @@ use Rattle.tr_tracee.specs.declared.life.Stop.{Stop}
 use Rattle.tr_tracee.specs.declared.life.Stop.TheVariants as stop
 use Rattle.tr_tracee.specs.declared.thread.Thread.{Thread}
 use Rattle.tr_model.proofs.Every.{each_map, each-append, each_filter, each_changed, each_dropped}
-use Rattle.tr_model.proofs.Kept.{Tame, Kept, any, any_of, itself}
+use Rattle.tr_model.proofs.Calm.{Tame}
+use Rattle.tr_model.proofs.Kept.{Kept, any, any_of, itself}
 use Rattle.tr_model.specs.Journals.{Each}
 use Rattle.tr_model.specs.Laws.{IsStopStatus}
 use Rattle.tr_model.specs.Moves.{Raise, Work}
