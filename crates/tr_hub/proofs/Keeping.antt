@@ -82,6 +82,15 @@ kept_after h actor event (Refused NoMemory) k kept history e room q f u = rw u k
 kept_after h actor event (Refused JournalFull) k kept history e room q f u = rw u (kept_asked h (record { actor = actor; event = event; position = length h.kernel.journal; answer = Refused JournalFull }) kept refl (f.0.no_cause, f.0.not_quiet, (let a = kept.within in let b = f.1 in omega arith)))
 kept_after h actor event (Refused why) k kept history e room q f u = rw u (kept_asked h (record { actor = actor; event = event; position = length h.kernel.journal; answer = Refused why }) kept refl f)
 
+pub start_kept : (old : State) (actor : ℕ) (event : Event) (answer : Answer) (new : State)
+    → IfEntered answer (λ r. IsEntered old actor event r.reply new)
+    → IfRead answer (λ reply. IsQuiet old actor event reply new)
+    → IfRefused answer (λ why. new ≡ old)
+    → new.start ≡ old.start
+start_kept old actor event (Entered r) new e q u = e.start
+start_kept old actor event (Read reply) new e q u = rw q.same refl
+start_kept old actor event (Refused why) new e q u = rw u refl
+
 -- Books
 
 longer : (old : State) (actor : ℕ) (event : Event) (reply : Reply) (new : State) → IsEntered old actor event reply new → length new.journal ≡ length old.journal + 1

@@ -34,7 +34,7 @@ impl<E: Parts, A: Parts> Model for Held<E, A> {
     ghost invariant = { λ h.
         IsKept (record { kernel = h.kernel; asked = h.asked.items })
         × (h.books.entries.total ≡ length h.kernel.journal) × (h.books.accepted.total ≡ h.kernel.table.accepted)
-        × (h.own.entries.parts ≡ 1) × (h.own.entries.amount ≡ 0) × (h.own.accepted.parts ≡ 1) × (h.own.accepted.amount ≡ 0) };
+        × (h.own.entries.parts ≡ 1) × (h.own.entries.amount ≡ 0) × (h.own.accepted.parts ≡ 1) × (h.own.accepted.amount ≡ 0) × (h.kernel.start ≡ E.opening) };
 }
 
 /// What is left when the lock is gone.
@@ -55,6 +55,7 @@ impl<E: Parts, A: Parts> Held<E, A> {
         own: Shares<E, A>,
     ) -> Held<E, A>
         requires empty { kernel.journal ≡ [] }
+        requires start { kernel.start ≡ E.opening }
         requires totals { (books.entries.total ≡ 0) × (books.accepted.total ≡ 0) }
         requires parts { (own.entries.parts ≡ 1) × (own.accepted.parts ≡ 1) }
         requires amounts { (own.entries.amount ≡ 0) × (own.accepted.amount ≡ 0) }
@@ -72,6 +73,7 @@ impl<E: Parts, A: Parts> Held<E, A> {
     /// Its parts, with what they have kept.
     pub(crate) fn open(self) -> Opened<E, A>
         ensures kept { IsKept (record { kernel = result.kernel; asked = result.asked.items }) }
+        ensures start { result.kernel.start ≡ E.opening }
         ensures same { (result.kernel ≡ self.kernel) × (result.asked.items ≡ self.asked) }
         ensures entries { result.books.entries.total ≡ length result.kernel.journal }
         ensures accepted { result.books.accepted.total ≡ result.kernel.table.accepted }

@@ -59,6 +59,7 @@ impl<E: Parts, A: Parts> Hub<E, A> {
         actors: &[u32],
     ) -> Result<(Hub<E, A>, Vec<Seat<E, A>>), HubFault>
         requires empty { kernel.journal ≡ [] }
+        requires start { kernel.start ≡ E.opening }
         requires entries { (entries.name ≡ E.name) × (entries.parts ≡ E.parts) × (E.all ≡ E.parts) × (E.all ≡ length actors.now + 1) }
         requires accepted { (accepted.name ≡ A.name) × (accepted.parts ≡ A.parts) × (A.all ≡ A.parts) × (A.all ≡ length actors.now + 1) }
         ensures seats { IfOk result (λ r. (r.0 ≡ length actors.now) × (r.1.items ≡ map new_seat actors.now)) }
@@ -141,6 +142,7 @@ impl<E: Parts, A: Parts> Hub<E, A> {
     pub fn close(self, seats: Vec<Seat<E, A>>) -> Result<(Kernel, Vec<Asked>), Unclosed<E, A>>
         requires { (E.all ≡ E.parts) × (A.all ≡ A.parts) }
         ensures kept { IfOk result (λ r. IsKept (record { kernel = r.0; asked = r.1.items })) }
+        ensures start { IfOk result (λ r. r.0.start ≡ E.opening) }
         ensures entries { IfOk result (λ r. length r.0.journal ≡ sum_by (λ s. s.entries) seats.items) }
         ensures accepted { IfOk result (λ r. r.0.table.accepted ≡ sum_by (λ s. s.accepted) seats.items) }
         ensures unclosed { IfErr result (λ u. (u.hub ≡ self) × (u.seats.items ≡ seats.items)) }

@@ -5,13 +5,22 @@ use crate::answers::Answer;
 use std::marker::Brand;
 use std::sync::ledger::{Blank, Book, Ledger, Share};
 
-/// A ledger whose type tells the number of its parts. A hub has two: one counts entries, the other accepted signals.
+/// A ledger whose type tells the number of its parts, and the start of its hub's kernel. A hub has two ledgers: one counts
+/// entries, the other accepted signals.
 pub trait Parts: Ledger {
+    ghost use Rattle.tr_table.specs.declared.starts.Start.{Start};
+
     ghost all: { ℕ };
+
+    ghost opening: { Start };
 }
 
 impl Parts for Brand {
+    ghost use Rattle.std.specs.Prelude.{[]};
+
     ghost all = { 0 };
+
+    ghost opening = { record { groups = []; limit = 0; entries = 0 } };
 }
 
 /// Parts of both ledgers, and the amounts that stand on them.

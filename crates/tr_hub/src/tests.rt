@@ -83,14 +83,17 @@ fn at<E: Parts + Send + Sync, A: Parts + Send + Sync, R: Threads + Wait + Abort 
     alloc: Global,
     entries: Blank,
     accepted: Blank,
+    kernel: Kernel,
     actors: &[u32],
     trial: Trial,
 ) -> Result<(), Fail>
+    requires empty { kernel.journal ≡ [] }
+    requires start { kernel.start ≡ E.opening }
     requires two { length actors.now ≡ 2 }
     requires entries { (entries.name ≡ E.name) × (entries.parts ≡ E.parts) × (E.all ≡ E.parts) × (E.all ≡ 3) }
     requires accepted { (accepted.name ≡ A.name) × (accepted.parts ≡ A.parts) × (A.all ≡ A.parts) × (A.all ≡ 3) }
 {
-    let hub = Hub::<E, A>::new(alloc, entries, accepted, kernel(alloc)?, actors);
+    let hub = Hub::<E, A>::new(alloc, entries, accepted, kernel, actors);
     let (hub, seats) = match hub {
         Ok(opened) => opened,
         Err(fault) => return refused(rt, fault, trial),
@@ -112,7 +115,16 @@ fn at_brand<R: Threads + Wait + Abort + Sync>(
 ) -> Result<(), Fail>
     requires { length actors.now ≡ 2 }
 {
-    at::<Brand, Brand, _>(rt, alloc, Blank::new(3), Blank::new(3), actors, trial)
+    let kernel = kernel(alloc)?;
+    at::<Brand, Brand, _>(
+        rt,
+        alloc,
+        Blank::new(3),
+        Blank::new(3),
+        kernel,
+        actors,
+        trial,
+    )
 }
 
 #[test]

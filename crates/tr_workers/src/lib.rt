@@ -9,7 +9,6 @@ mod sameness;
 mod scripts;
 mod seat_ports;
 mod settling;
-mod starts;
 mod teams;
 mod working;
 

@@ -5,7 +5,6 @@ mod memory;
 mod places;
 
 use super::*;
-use crate::sameness::Same;
 use gates::{Meeting, Open, Second};
 use std::alloc::Global;
 use std::fmt::Debug;
@@ -102,13 +101,6 @@ fn two_scripts_are_run_and_settle_each_time(rt: HostRuntime) -> Result<(), Fail>
     for _ in 0..20 {
         run_two(&rt, alloc, &scripts)?;
     }
-    Ok(())
-}
-
-#[test]
-fn start_equals_its_copy(rt: HostRuntime) -> Result<(), Fail> {
-    let start = start(rt.alloc())?;
-    same(&rt, &start.copy(rt.alloc())?.same(&start), &true);
     Ok(())
 }
 
