@@ -9,10 +9,11 @@ use Rattle.tr_table.specs.Starts.{table_of}
 use Rattle.tr_kernel.specs.Positions.{table_at}
 use Rattle.tr_kernel.specs.States.{State, IsEntered, IsHistory, IsQuiet, IsRefusal, entry_of}
 use Rattle.tr_kernel.proofs.Positions.{table_at_end, table_at_kept}
-use Rattle.tr_hub.specs.declared.answers.Answer.{Answer}
-use Rattle.tr_hub.specs.declared.answers.Answer.TheVariants.{Entered, Read, Refused}
+use Rattle.tr_kernel.specs.declared.answers.Answer.{Answer}
+use Rattle.tr_kernel.specs.declared.answers.Answer.TheVariants.{Entered, Read, Refused}
 use Rattle.tr_hub.specs.declared.answers.Asked.{Asked}
-use Rattle.tr_hub.specs.Answers.{IfEntered, IfRead, IfRefused, IsReceipt, accepted_in, asked_after, entries_in}
+use Rattle.tr_kernel.specs.Answers.{IfEntered, IfRead, IfRefused, IsReceipt}
+use Rattle.tr_hub.specs.Answers.{accepted_in, asked_after, entries_in}
 use Rattle.tr_hub.proofs.Limits.{limit_kept}
 use Rattle.tr_hub.specs.Kept.{AllLegal, Answers, HeldState, IsKept, IsLegal, Rises}
 

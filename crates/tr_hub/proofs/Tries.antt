@@ -5,11 +5,11 @@ use Rattle.tr_model.specs.declared.replies.Reply.{Reply}
 use Rattle.tr_model.specs.declared.replies.Reply.TheVariants.{Nothing}
 use Rattle.tr_model.specs.Causes.{nothing_where}
 use Rattle.tr_kernel.specs.States.{State, IsQuiet}
-use Rattle.tr_hub.specs.declared.answers.Answer.{Answer}
-use Rattle.tr_hub.specs.declared.answers.Answer.TheVariants.{Entered, Read, Refused}
+use Rattle.tr_kernel.specs.declared.answers.Answer.{Answer}
+use Rattle.tr_kernel.specs.declared.answers.Answer.TheVariants.{Entered, Read, Refused}
 use Rattle.tr_hub.specs.declared.waits.WaitCall.{WaitCall}
 use Rattle.tr_hub.specs.declared.waits.WaitCall.TheVariants.{Tracer, Starter}
-use Rattle.tr_hub.specs.Answers.{IfRead}
+use Rattle.tr_kernel.specs.Answers.{IfRead}
 use Rattle.tr_hub.specs.Seats.{event_of}
 
 is_nothing : (b : Bool) (r : Reply) → nothing_where b ≡ Some r → r ≡ Nothing

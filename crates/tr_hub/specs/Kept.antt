@@ -9,8 +9,8 @@ use Rattle.tr_model.specs.Tables.{Table}
 use Rattle.tr_table.specs.Starts.{table_of}
 use Rattle.tr_kernel.specs.Positions.{table_at}
 use Rattle.tr_kernel.specs.States.{State, IsHistory}
-use Rattle.tr_hub.specs.declared.answers.Answer.{Answer}
-use Rattle.tr_hub.specs.declared.answers.Answer.TheVariants.{Entered, Read, Refused}
+use Rattle.tr_kernel.specs.declared.answers.Answer.{Answer}
+use Rattle.tr_kernel.specs.declared.answers.Answer.TheVariants.{Entered, Read, Refused}
 use Rattle.tr_hub.specs.declared.answers.Asked.{Asked}
 
 -- the kernel behind the lock, and every answer without an entry, in order

@@ -1,15 +1,16 @@
 ghost use Rattle.std.specs.Prelude.{◌≡◌, ◌≢◌, ◌<◌, [], length};
-ghost use Rattle.tr_kernel.specs.States.{IsEntered, IsHistory, IsQuiet, IsRefusal};
-ghost use Rattle.tr_hub.specs.Answers.{IfEntered, IfRead, IfRefused, IsReceipt, asked_after};
+ghost use Rattle.tr_kernel.specs.Answers.{IfEntered, IfRead, IfRefused, IsReceipt};
+ghost use Rattle.tr_kernel.specs.States.{IsEntered, IsQuiet, IsRefusal};
+ghost use Rattle.tr_hub.specs.Answers.{asked_after};
 ghost use Rattle.tr_hub.specs.Kept.{IsKept};
 ghost use Rattle.tr_hub.specs.Seats.{seat_after};
 
-use crate::answers::{Answer, Asked, Receipt, keep};
+use crate::answers::{Asked, keep};
 use crate::seats::Seat;
 use crate::shares::{Books, Parts, Shares};
 use std::alloc::Global;
 use std::marker::Model;
-use tr_kernel::Kernel;
+use tr_kernel::{Answer, Kernel};
 use tr_model::{Event, Refusal};
 
 /// What the lock of a hub keeps: a kernel, the books of its entries and of the signals that they accepted, and every
@@ -115,37 +116,9 @@ impl<E: Parts, A: Parts> Held<E, A> {
         }
         let actor = seat.actor();
         let position = self.kernel.journal().len() as u64;
-        let answer = called(&mut self.kernel, actor, &event);
+        let answer = self.kernel.call(actor, event);
         keep(&mut self.asked, actor, &event, position, &answer);
         seat.add(&mut self.books, &answer);
         answer
     }
-}
-
-/// One event of an actor at a kernel, with the receipt of an entry.
-fn called(kernel: &mut Kernel, actor: u32, event: &Event) -> Answer
-    ensures entered { IfEntered result (λ r. IsEntered kernel.old actor event.now r.reply kernel.new) }
-    ensures room { IfEntered result (λ _. length kernel.old.journal < kernel.old.table.entries) }
-    ensures receipt { IfEntered result (λ r. IsReceipt r event.now kernel.old kernel.new) }
-    ensures read { IfRead result (λ reply. IsQuiet kernel.old actor event.now reply kernel.new) }
-    ensures refused { IfRefused result (λ why. IsRefusal kernel.old actor event.now why) }
-    ensures unchanged { IfRefused result (λ _. kernel.new ≡ kernel.old) }
-    ensures history { IsHistory kernel.new }
-{
-    let before = kernel.journal().len();
-    let accepted = kernel.table().accepted();
-    let reply = match kernel.step(actor, *event) {
-        Ok(reply) => reply,
-        Err(why) => return Answer::Refused(why),
-    };
-    let position = kernel.journal().len();
-    if position == before {
-        return Answer::Read(reply);
-    }
-    Answer::Entered(Receipt {
-        position: position as u64,
-        event: *event,
-        reply,
-        accepted: kernel.table().accepted() - accepted,
-    })
 }

@@ -1,9 +1,10 @@
 ghost use Rattle.std.specs.Prelude.{◌≡◌, ℕ, ◌≤◌, ◌<◌, ◌+◌, ◌↔◌, [], length, map, sum_by, vec_len, IfOk, IfErr, IsErr, IsErrOf, IsTrue};
-ghost use Rattle.tr_hub.specs.Answers.{IfEntered, IfRead, is_kept};
+ghost use Rattle.tr_kernel.specs.Answers.{IfEntered, IfRead};
+ghost use Rattle.tr_hub.specs.Answers.{is_kept};
 ghost use Rattle.tr_hub.specs.Kept.{IsKept, IsPossible};
 ghost use Rattle.tr_hub.specs.Seats.{HasRepeat, event_of, new_seat, seat_after};
 
-use crate::answers::{Answer, Asked};
+use crate::answers::Asked;
 use crate::held::{Held, Opened};
 use crate::seats::{Seat, gathered, has_repeat, seated};
 use crate::shares::{Books, Parts};
@@ -12,7 +13,7 @@ use std::alloc::Global;
 use std::marker::Model;
 use std::sync::ledger::Blank;
 use std::sync::{Condvar, Mutex, Wait};
-use tr_kernel::Kernel;
+use tr_kernel::{Answer, Kernel};
 use tr_model::{Event, Reply};
 
 /// Why a kernel can't be put under a lock.

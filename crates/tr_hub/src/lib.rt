@@ -8,11 +8,12 @@ mod seats;
 mod shares;
 mod waits;
 
-pub use answers::{Answer, Asked, Receipt};
+pub use answers::Asked;
 pub use held::Held;
 pub use hubs::{Hub, HubFault, Unclosed};
 pub use seats::Seat;
 pub use shares::Parts;
+pub use tr_kernel::{Answer, Receipt};
 pub use waits::WaitCall;
 
 #[cfg(test)]

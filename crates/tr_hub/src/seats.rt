@@ -2,10 +2,10 @@ ghost use Rattle.std.specs.Prelude.{◌≡◌, ◌+◌, ◌≤◌, IfOk, IsTrue,
 ghost use Rattle.tr_hub.specs.Answers.{accepted_in, entries_in};
 ghost use Rattle.tr_hub.specs.Seats.{HasRepeat, new_seat, seat_after};
 
-use crate::answers::Answer;
 use crate::shares::{Books, Parts, Shares};
 use std::alloc::{AllocError, Global};
 use std::marker::Model;
+use tr_kernel::Answer;
 
 /// The right of one actor to call a hub, and the account of what was entered from it. Contracts see it as its actor, its
 /// number of entries, and the number of signals that these accepted.

@@ -1,9 +1,9 @@
 ghost use Rattle.std.specs.Prelude.{◌≡◌, ℕ, ◌+◌, ◌≤◌, ◌<◌};
 ghost use Rattle.tr_hub.specs.Answers.{accepted_in, entries_in};
 
-use crate::answers::Answer;
 use std::marker::Brand;
 use std::sync::ledger::{Blank, Book, Ledger, Share};
+use tr_kernel::Answer;
 
 /// A ledger whose type tells the number of its parts, and the start of its hub's kernel. A hub has two ledgers: one counts
 /// entries, the other accepted signals.

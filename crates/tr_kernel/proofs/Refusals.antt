@@ -1,13 +1,11 @@
 -- What a check refuses is a cause, and the only one.
-use Rattle.std.proofs.Common.{◌≡◌, ◌<◌, ℕ, Some, Result, Ok, Err, length, refl, sym, ap, ◌∙◌}
+use Rattle.std.proofs.Common.{◌≡◌, ◌<◌, ℕ, Some, Ok, Err, length, refl, sym, ◌∙◌}
 use Rattle.std.proofs.lemmas.Option.{same_Some}
-use Rattle.std.specs.Prelude.{IfErr}
 use Rattle.tr_model.specs.declared.checked.Checked.TheVariants.{Due}
 use Rattle.tr_model.specs.declared.events.Choice.{Choice}
 use Rattle.tr_model.specs.declared.events.Event.{Event}
 use Rattle.tr_model.specs.declared.replies.Refusal.{Refusal}
 use Rattle.tr_model.specs.declared.replies.Refusal.TheVariants.{Perm, Srch, Io, Child, Again, NoMemory, Inval, Busy, NotDue, NotRunning, Unmodelled, ThreadedExec, JournalFull}
-use Rattle.tr_model.specs.declared.replies.Reply.{Reply}
 use Rattle.tr_model.specs.Causes.{cause_of}
 use Rattle.tr_model.specs.Preferred.{check}
 use Rattle.tr_kernel.specs.States.{IsRefusal, State}
@@ -28,10 +26,9 @@ refusal k a e Unmodelled h = refusals k.table a e Unmodelled h
 refusal k a e ThreadedExec h = refusals k.table a e ThreadedExec h
 refusal k a e JournalFull h = absurd ((is_cause k.table a e JournalFull (refusals k.table a e JournalFull h)).full refl)
 
-pub only_cause : (k : State) (a : ℕ) (e : Event) (found : Refusal) → check k.table a e ≡ Err found → (why : Refusal) → cause_of k.table a e ≡ Some why → ◌≡◌ {A = Result Reply Refusal} (Err found) (Err why)
-only_cause k a e found h why r = ap (λ x. Err x) (same_Some found why (sym (refusals k.table a e found h) ∙ r))
+pub only_cause : (k : State) (a : ℕ) (e : Event) (found : Refusal) → check k.table a e ≡ Err found → (why : Refusal) → cause_of k.table a e ≡ Some why → found ≡ why
+only_cause k a e found h why r = same_Some found why (sym (refusals k.table a e found h) ∙ r)
 
 -- want of memory comes where an entry is due and the journal isn't full
-pub want_of_memory : {A : Type 0} (r : Result A Refusal) (k : State) (a : ℕ) (e : Event) (c : Choice) → check k.table a e ≡ Ok (Due c) → length k.journal < k.table.entries → IfErr r (λ why. why ≡ NoMemory) → IfErr r (λ why. IsRefusal k a e why)
-want_of_memory (Ok x) k a e c h f m = tt
-want_of_memory (Err why) k a e c h f m = let d = dues k.table a e c h in rw m (record { no_cause = d.no_cause; not_quiet = d.not_quiet }, f)
+pub want_of_memory : (k : State) (a : ℕ) (e : Event) (c : Choice) (why : Refusal) → check k.table a e ≡ Ok (Due c) → length k.journal < k.table.entries → why ≡ NoMemory → IsRefusal k a e why
+want_of_memory k a e c why h f m = let d = dues k.table a e c h in rw m (record { no_cause = d.no_cause; not_quiet = d.not_quiet }, f)

@@ -1,3 +1,4 @@
+pub mod Answers
 pub mod Fates
 pub mod Laws
 pub mod Notes

@@ -7,11 +7,14 @@ ghost use Rattle.tr_model.specs.Laws.{OneFate};
 ghost use Rattle.tr_model.specs.Causes.{cause_of};
 ghost use Rattle.tr_model.specs.Preferred.{check};
 ghost use Rattle.tr_table.specs.Starts.{is_good, table_of};
+ghost use Rattle.tr_kernel.specs.declared.answers.Answer.TheVariants.{Refused};
+ghost use Rattle.tr_kernel.specs.Answers.{IfEntered, IfRead, IfRefused, IsReceipt};
 ghost use Rattle.tr_kernel.specs.Laws.{KillsAt, RaisedBefore, WaitsAt, consumed_at};
 ghost use Rattle.tr_kernel.specs.Notes.{notes_of};
 ghost use Rattle.tr_kernel.specs.Private.{IsRestartAt, mark_at};
 ghost use Rattle.tr_kernel.specs.States.{AcceptsFew, IsDue, IsEntered, IsHistory, IsQuiet, IsRefusal, opened};
 
+use crate::answers::{Answer, Receipt};
 use crate::entries::{report_of, write_entry};
 use crate::events::check;
 use crate::fates::{at_position, tally};
@@ -178,11 +181,40 @@ impl Kernel {
         Some(place as u64 + 1)
     }
 
-    /// One event of an actor: an answer without an entry, or one entry more, or a refusal.
+    /// Makes one call of an actor, and tells what came of it: an entry with its receipt, an answer without an entry, or a
+    /// refusal.
     ///
     /// A cause of the model's comes exactly where the model has it; `JournalFull` exactly where an entry is due and the
     /// journal has as many as the entry limit; `NoMemory` only where an entry is due and the journal isn't full. After a
     /// refusal nothing has changed.
+    #[inline(always)]
+    pub fn call(&mut self, actor: u32, event: Event) -> Answer
+        ensures entered { IfEntered result (λ r. IsEntered self.old actor event r.reply self.new) }
+        ensures receipt { IfEntered result (λ r. IsReceipt r event self.old self.new) }
+        ensures room { IfEntered result (λ _. length self.old.journal < self.old.table.entries) }
+        ensures read { IfRead result (λ reply. IsQuiet self.old actor event reply self.new) }
+        ensures refused { IfRefused result (λ why. IsRefusal self.old actor event why) }
+        ensures unchanged { IfRefused result (λ _. self.new ≡ self.old) }
+        ensures cause { (why : Refusal) → cause_of self.old.table actor event ≡ Some why → result ≡ Refused why }
+        ensures full { IsDue self.old actor event → self.old.table.entries ≤ length self.old.journal → result ≡ Refused Refusal.JournalFull }
+        ensures history { IsHistory self.new }
+    {
+        match check(&self.table, actor, &event) {
+            Err(why) => Answer::Refused(why),
+            Ok(Checked::Quiet(reply)) => Answer::Read(reply),
+            Ok(Checked::Due(choice)) => {
+                if self.journal.len() >= self.table.entries() as usize {
+                    return Answer::Refused(Refusal::JournalFull);
+                }
+                match self.enter_with_receipt(actor, &event, &choice) {
+                    Ok(receipt) => Answer::Entered(receipt),
+                    Err(why) => Answer::Refused(why),
+                }
+            }
+        }
+    }
+
+    /// Makes one call of an actor, as `call`, and gives its reply or its refusal alone.
     pub fn step(&mut self, actor: u32, event: Event) -> Result<Reply, Refusal>
         ensures ok { IfOk result (λ reply. IsQuiet self.old actor event reply self.new ⊎ IsEntered self.old actor event reply self.new) }
         ensures err { IfErr result (λ why. IsRefusal self.old actor event why) }
@@ -192,16 +224,37 @@ impl Kernel {
         ensures bounded { AcceptsFew self.old.table self.new.table }
         ensures history { IsHistory self.new }
     {
-        match check(&self.table, actor, &event) {
-            Err(why) => Err(why),
-            Ok(Checked::Quiet(reply)) => Ok(reply),
-            Ok(Checked::Due(choice)) => {
-                if self.journal.len() >= self.table.entries() as usize {
-                    return Err(Refusal::JournalFull);
-                }
-                self.enter(actor, &event, &choice)
-            }
+        match self.call(actor, event) {
+            Answer::Entered(receipt) => Ok(receipt.reply),
+            Answer::Read(reply) => Ok(reply),
+            Answer::Refused(why) => Err(why),
         }
+    }
+
+    /// Makes the entry of an event that is due, and gives its receipt. Where memory is refused nothing has changed.
+    #[inline(always)]
+    fn enter_with_receipt(
+        &mut self,
+        actor: u32,
+        event: &Event,
+        choice: &Choice,
+    ) -> Result<Receipt, Refusal>
+        requires few { length self.old.journal < 2 ^ 32 }
+        requires due { check self.old.table actor event.now ≡ Ok (Due choice.now) }
+        ensures entered { IfOk result (λ r. IsEntered self.old actor event.now r.reply self.new) }
+        ensures receipt { IfOk result (λ r. IsReceipt r event.now self.old self.new) }
+        ensures err { IfErr result (λ why. why ≡ Refusal.NoMemory) }
+        ensures unchanged { OnErr result (self.new ≡ self.old) }
+        ensures history { IsHistory self.new }
+    {
+        let accepted = self.table().accepted();
+        let reply = self.enter(actor, event, choice)?;
+        Ok(Receipt {
+            position: self.journal().len() as u64,
+            event: *event,
+            reply,
+            accepted: self.table().accepted() - accepted,
+        })
     }
 
     /// Makes the entry of an event that is due. Where memory is refused nothing has changed.

@@ -1,6 +1,7 @@
 //! The kernel: a table, and the journal that replays to it.
 #![tactic(auto)]
 
+mod answers;
 mod entries;
 mod events;
 mod fates;
@@ -9,6 +10,7 @@ pub mod laws;
 mod notes;
 mod restarts;
 
+pub use answers::{Answer, Receipt};
 pub use kernels::{Kernel, StartFault};
 
 #[cfg(test)]

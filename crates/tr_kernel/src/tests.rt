@@ -76,7 +76,7 @@ fn blocks(rt: &impl Abort, kernel: &mut Kernel) {
 }
 
 /// That a call is answered so.
-fn answers(
+fn expect_answer(
     rt: &impl Abort,
     kernel: &mut Kernel,
     actor: u32,
@@ -98,8 +98,8 @@ fn has_fate(rt: &impl Abort, kernel: &Kernel, number: u64, want: Option<Fate>) {
 fn second_pending_signal_merges(rt: HostRuntime) -> Result<(), Fail> {
     let mut kernel = kernel(&rt, 100)?;
     blocks(&rt, &mut kernel);
-    answers(&rt, &mut kernel, 900, &KILL, &sent(1, Fate::Pending));
-    answers(&rt, &mut kernel, 900, &KILL, &sent(2, Fate::Merged));
+    expect_answer(&rt, &mut kernel, 900, &KILL, &sent(1, Fate::Pending));
+    expect_answer(&rt, &mut kernel, 900, &KILL, &sent(2, Fate::Merged));
     has_fate(&rt, &kernel, 1, Some(Fate::Pending));
     has_fate(&rt, &kernel, 2, Some(Fate::Merged));
     has_fate(&rt, &kernel, 3, None);
@@ -131,7 +131,7 @@ fn taken_signal_is_delivered(rt: HostRuntime) -> Result<(), Fail> {
     let _sent = kernel.step(900, KILL);
     assert!(rt; kernel.step(10, TAKE).is_ok());
     has_fate(&rt, &kernel, 1, Some(Fate::Delivered));
-    answers(&rt, &mut kernel, 10, &TAKE, &Ok(Reply::Nothing));
+    expect_answer(&rt, &mut kernel, 10, &TAKE, &Ok(Reply::Nothing));
     same(&rt, &kernel.journal().len(), &2);
     Ok(())
 }
@@ -149,8 +149,8 @@ fn signal_to_a_thread_waits_in_its_own_queue(rt: HostRuntime) -> Result<(), Fail
         tid: 10,
         sig: 10,
     };
-    answers(&rt, &mut kernel, 900, &to_thread, &sent(1, Fate::Pending));
-    answers(&rt, &mut kernel, 900, &KILL, &sent(2, Fate::Pending));
+    expect_answer(&rt, &mut kernel, 900, &to_thread, &sent(1, Fate::Pending));
+    expect_answer(&rt, &mut kernel, 900, &KILL, &sent(2, Fate::Pending));
     has_queue(&rt, &kernel, Target::Thread(10), 1);
     has_queue(&rt, &kernel, Target::Group(10), 1);
     Ok(())
@@ -181,7 +181,7 @@ fn queued_signal_brings_its_value(rt: HostRuntime) -> Result<(), Fail> {
 fn pausing_thread_does_nothing_else(rt: HostRuntime) -> Result<(), Fail> {
     let mut kernel = kernel(&rt, 100)?;
     let pause = Event::Pause { tid: 10 };
-    answers(&rt, &mut kernel, 10, &pause, &Ok(Reply::Done));
+    expect_answer(&rt, &mut kernel, 10, &pause, &Ok(Reply::Done));
     same(&rt, &block(&mut kernel), &Err(Refusal::NotRunning));
     let _sent = kernel.step(900, KILL);
     let _taken = kernel.step(10, TAKE);
@@ -195,9 +195,9 @@ fn full_journal_takes_no_entry(rt: HostRuntime) -> Result<(), Fail> {
     let probe = Event::Kill { tgid: 10, sig: 0 };
     let nobody = Event::Kill { tgid: 11, sig: 10 };
     let _first = kernel.step(900, KILL);
-    answers(&rt, &mut kernel, 900, &KILL, &Err(Refusal::JournalFull));
-    answers(&rt, &mut kernel, 900, &probe, &Ok(Reply::Exists));
-    answers(&rt, &mut kernel, 900, &nobody, &Err(Refusal::Srch));
+    expect_answer(&rt, &mut kernel, 900, &KILL, &Err(Refusal::JournalFull));
+    expect_answer(&rt, &mut kernel, 900, &probe, &Ok(Reply::Exists));
+    expect_answer(&rt, &mut kernel, 900, &nobody, &Err(Refusal::Srch));
     same(&rt, &kernel.journal().len(), &1);
     Ok(())
 }
@@ -210,7 +210,7 @@ fn event_message_of_a_signal_delivery_stop_is_outside_the_model(
     let message = Event::EventMessage { tid: 10 };
     let _attached = kernel.step(900, Event::Attach { tid: 10 });
     let _taken = kernel.step(10, TAKE);
-    answers(&rt, &mut kernel, 900, &message, &Err(Refusal::Unmodelled));
+    expect_answer(&rt, &mut kernel, 900, &message, &Err(Refusal::Unmodelled));
     Ok(())
 }
 

@@ -3,9 +3,9 @@ use Rattle.std.proofs.Common.{◌≡◌, ℕ, ◌+◌, ◌-◌, ◌<◌, suc, Li
 use Rattle.std.specs.Prelude.{Option, Some, None, slice_get, MatchOption}
 use Rattle.tr_model.specs.declared.events.Event.{Event}
 use Rattle.tr_model.specs.declared.replies.Refusal.TheVariants.{NoMemory}
-use Rattle.tr_hub.specs.declared.answers.Answer.{Answer}
-use Rattle.tr_hub.specs.declared.answers.Answer.TheVariants.{Refused}
-use Rattle.tr_hub.specs.declared.answers.Receipt.{Receipt}
+use Rattle.tr_kernel.specs.declared.answers.Answer.{Answer}
+use Rattle.tr_kernel.specs.declared.answers.Answer.TheVariants.{Refused}
+use Rattle.tr_kernel.specs.declared.answers.Receipt.{Receipt}
 use Rattle.tr_workers.specs.declared.scripts.Item.{Item}
 use Rattle.tr_workers.specs.declared.ports.Told.{Told}
 use Rattle.tr_workers.specs.declared.working.Ended.TheVariants.{AtEnd, OutOfTurns}

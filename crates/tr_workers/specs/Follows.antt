@@ -2,10 +2,11 @@
 use Rattle.std.specs.Prelude.{◌≡◌, ℕ, ◌+◌, ◌-◌, ◌≤◌, ◌↔◌, List, [], ◌∷◌, ◌++◌, length, map, replicate, Option, Some, None, slice_get, if◌then◌else◌}
 use Rattle.tr_model.specs.declared.events.Event.{Event}
 use Rattle.tr_model.specs.declared.replies.Refusal.TheVariants.{NoMemory}
-use Rattle.tr_hub.specs.declared.answers.Answer.{Answer}
-use Rattle.tr_hub.specs.declared.answers.Answer.TheVariants.{Entered, Read, Refused}
-use Rattle.tr_hub.specs.declared.answers.Receipt.{Receipt}
-use Rattle.tr_hub.specs.Answers.{IfEntered, is_kept}
+use Rattle.tr_kernel.specs.declared.answers.Answer.{Answer}
+use Rattle.tr_kernel.specs.declared.answers.Answer.TheVariants.{Entered, Read, Refused}
+use Rattle.tr_kernel.specs.declared.answers.Receipt.{Receipt}
+use Rattle.tr_kernel.specs.Answers.{IfEntered}
+use Rattle.tr_hub.specs.Answers.{is_kept}
 use Rattle.tr_workers.specs.declared.scripts.Item.{Item}
 use Rattle.tr_workers.specs.declared.ports.Told.{Told}
 use Rattle.tr_workers.specs.declared.working.Ended.{Ended}

@@ -1,6 +1,6 @@
 ghost use Rattle.std.specs.Prelude.{◌≡◌, ◌≤◌, ◌<◌, ◌^◌, [], length, IfErr, IfOk, OnOk};
 ghost use Rattle.tr_hub.specs.Answers.{accepted_in};
-ghost use Rattle.tr_hub.specs.declared.answers.Answer.TheVariants.{Refused};
+ghost use Rattle.tr_kernel.specs.declared.answers.Answer.TheVariants.{Refused};
 ghost use Rattle.tr_model.specs.declared.replies.Refusal.TheVariants.{NoMemory};
 ghost use Rattle.tr_workers.specs.Follows.{Follows, IsCutShort};
 ghost use Rattle.tr_workers.specs.Tallies.{accepted_of, counted, refused_of};

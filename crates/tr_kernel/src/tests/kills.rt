@@ -2,7 +2,7 @@ use super::stops::{
     DIE, EXIT, EXIT_GROUP, SEIZE_EXIT, TRACED, UNTRACED, after, all_die, held, is_in, some_in_stop,
     some_stopped, starter_word, tracer_word,
 };
-use super::{answers, has_fate, same, sent};
+use super::{expect_answer, has_fate, same, sent};
 use crate::Kernel;
 use std::process::Abort;
 use std::test::Fail;
@@ -56,7 +56,7 @@ fn kill_ends_a_tracee_in_each_state(rt: HostRuntime) -> Result<(), Fail> {
 #[test]
 fn kill_of_a_dead_group_is_flushed(rt: HostRuntime) -> Result<(), Fail> {
     let mut kernel = after(&rt, &[EXIT, DIE], false)?;
-    answers(&rt, &mut kernel, 901, &KILL, &sent(1, Fate::Flushed));
+    expect_answer(&rt, &mut kernel, 901, &KILL, &sent(1, Fate::Flushed));
     same(&rt, &starter_word(&mut kernel), &Some(0x300));
     Ok(())
 }
@@ -64,7 +64,7 @@ fn kill_of_a_dead_group_is_flushed(rt: HostRuntime) -> Result<(), Fail> {
 #[test]
 fn killed_group_keeps_the_end_that_it_had(rt: HostRuntime) -> Result<(), Fail> {
     let mut kernel = after(&rt, &[SEIZE_EXIT, EXIT_GROUP], false)?;
-    answers(&rt, &mut kernel, 901, &KILL, &sent(1, Fate::Delivered));
+    expect_answer(&rt, &mut kernel, 901, &KILL, &sent(1, Fate::Delivered));
     all_die(&mut kernel);
     same(&rt, &tracer_word(&mut kernel), &Some(0x300));
     same(&rt, &starter_word(&mut kernel), &Some(0x300));
@@ -92,9 +92,9 @@ const STARTER_WAIT: Event = Event::StarterWait {
 #[test]
 fn killed_tracee_reports_no_exit_stop(rt: HostRuntime) -> Result<(), Fail> {
     let mut kernel = after(&rt, &[SEIZE_EXIT], false)?;
-    answers(&rt, &mut kernel, 901, &KILL, &sent(1, Fate::Delivered));
-    answers(&rt, &mut kernel, DIE.0, &DIE.1, &Ok(Reply::Done));
-    answers(&rt, &mut kernel, 900, &WAIT, &Ok(waited(1)));
-    answers(&rt, &mut kernel, 1, &STARTER_WAIT, &Ok(waited(2)));
+    expect_answer(&rt, &mut kernel, 901, &KILL, &sent(1, Fate::Delivered));
+    expect_answer(&rt, &mut kernel, DIE.0, &DIE.1, &Ok(Reply::Done));
+    expect_answer(&rt, &mut kernel, 900, &WAIT, &Ok(waited(1)));
+    expect_answer(&rt, &mut kernel, 1, &STARTER_WAIT, &Ok(waited(2)));
     Ok(())
 }

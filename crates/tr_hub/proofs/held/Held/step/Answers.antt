@@ -8,9 +8,9 @@ invariant_of-self-2 g c =
     let h : HeldState = record { kernel = c.self.inside.kernel; asked = c.self.inside.asked.items } in
     let actor = c.actor-actor.result in
     let event = c.args.event in
-    let answer = c.called-answer.result in
-    let new = c.called-answer.new.kernel in
-    let e = c.called-answer.ensures in
+    let answer = c.call-answer.result in
+    let new = c.call-answer.new.self in
+    let e = c.call-answer.ensures in
     let i = c.self.invariant in
     let entries = entries_booked h.kernel actor event answer new e.entered e.read e.unchanged in
     let accepted = accepted_booked h.kernel actor event answer new e.receipt e.read e.unchanged in
@@ -20,8 +20,8 @@ invariant_of-self-2 g c =
 pub returns-clause-kept : goal.returns-clause-kept
 returns-clause-kept g c =
     let h : HeldState = record { kernel = c.self.inside.kernel; asked = c.self.inside.asked.items } in
-    let e = c.called-answer.ensures in
-    let kept : IsKept (record { kernel = c.called-answer.new.kernel; asked = c.keep.new.asked.items }) =
+    let e = c.call-answer.ensures in
+    let kept : IsKept (record { kernel = c.call-answer.new.self; asked = c.keep.new.asked.items }) =
     rw (c.keep.ensures, c.reserve.ensures.items, c.journal.ensures.entries)
-    (kept_after h c.actor-actor.result c.args.event c.called-answer.result c.called-answer.new.kernel c.self.invariant.0 e.history e.entered e.room e.read e.refused e.unchanged) in
+    (kept_after h c.actor-actor.result c.args.event c.call-answer.result c.call-answer.new.self c.self.invariant.0 e.history e.entered e.room e.read e.refused e.unchanged) in
     kept

@@ -1,6 +1,6 @@
 use Rattle.std.proofs.Common.{◌≡◌, ◌<◌}
 use Rattle.tr_model.specs.declared.replies.Reply.TheVariants.{Nothing}
-use Rattle.tr_hub.specs.declared.answers.Answer.TheVariants.{Read}
+use Rattle.tr_kernel.specs.declared.answers.Answer.TheVariants.{Read}
 use Rattle.tr_hub.specs.Kept.{IsPossible}
 use Rattle.tr_hub.specs.Seats.{event_of}
 use Rattle.tr_hub.proofs.hubs.Hub.wait_for.Given as goal
