@@ -17,7 +17,8 @@ use Rattle.tr_model.specs.declared.rows.Group.{Group}
 use Rattle.tr_wait.specs.declared.waits.Which.{Which}
 use Rattle.tr_wait.specs.declared.waits.WaitFlags.{WaitFlags}
 use Rattle.tr_model.specs.Journals.{Each, EachGroup, IsIn, WasRaised, occurs}
-use Rattle.tr_model.specs.Moves.{Raise, Work}
+use Rattle.tr_model.specs.declared.raises.Raise.{Raise}
+use Rattle.tr_model.specs.Moves.{Work}
 use Rattle.tr_model.specs.Tables.{Table}
 use Rattle.tr_tracee.specs.Lives.{held}
 use Rattle.tr_model.specs.Ends

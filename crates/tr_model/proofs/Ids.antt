@@ -11,7 +11,8 @@ use Rattle.tr_model.proofs.Calm.{Calm, calm_throughout, calm_broken, calm_broken
 use Rattle.tr_model.proofs.Kept.{Kept, any, any_of, itself}
 use Rattle.tr_model.proofs.OneFate.{one}
 use Rattle.tr_model.proofs.Measures.{total, total-append, total_changed, total_dropped, total_same, total_filter}
-use Rattle.tr_model.specs.Moves.{Raise, Work}
+use Rattle.tr_model.specs.declared.raises.Raise.{Raise}
+use Rattle.tr_model.specs.Moves.{Work}
 use Rattle.tr_model.specs.Tables.{Table}
 use Rattle.tr_tracee.specs.Lives.{held}
 use Rattle.tr_model.specs.Deaths

@@ -25,7 +25,8 @@ use Rattle.tr_model.proofs.Calm.{Calm, Tame, calm_throughout, calm_broken, calm_
 use Rattle.tr_model.proofs.Kept.{Leave, leave, found_id, entry-kept, admits_new, MayRestart, MayExec, Kept, tracer_is, itself}
 use Rattle.tr_model.specs.Journals.{IsIn}
 use Rattle.tr_model.specs.Laws.{IsRestart, Restarts, SomeRestarts}
-use Rattle.tr_model.specs.Moves.{Raise, Work}
+use Rattle.tr_model.specs.declared.raises.Raise.{Raise}
+use Rattle.tr_model.specs.Moves.{Work}
 use Rattle.tr_model.specs.Tables.{Table}
 use Rattle.tr_tracee.specs.Lives.{held}
 use Rattle.tr_model.specs.Deaths

@@ -13,7 +13,8 @@ use Rattle.tr_model.proofs.Calm.{Tame}
 use Rattle.tr_model.proofs.Kept.{Kept, any, any_of, itself}
 use Rattle.tr_model.specs.Journals.{Each}
 use Rattle.tr_model.specs.Laws.{IsStopStatus}
-use Rattle.tr_model.specs.Moves.{Raise, Work}
+use Rattle.tr_model.specs.declared.raises.Raise.{Raise}
+use Rattle.tr_model.specs.Moves.{Work}
 use Rattle.tr_model.specs.Tables.{Table}
 use Rattle.tr_tracee.specs.Lives.{held}
 use Rattle.tr_model.specs.Deaths

@@ -22,7 +22,7 @@ use Rattle.tr_model.specs.declared.rows.Waiting.{Waiting}
 use Rattle.tr_model.specs.Steps.{Step, number, work_of}
 use Rattle.tr_model.specs.Tables.{Table, thread_of}
 use Rattle.tr_model.specs.Takes.{choices_from, numbered}
-use Rattle.tr_model.specs.Moves.{Raise}
+use Rattle.tr_model.specs.declared.raises.Raise.{Raise}
 
 -- Lists
 
@@ -254,6 +254,11 @@ taken_of T _ c = None
 -- the signal that the entry takes at this table, if it is a take
 abbrev pub taken : Table → Entry → Option Taken
 taken T e = taken_of T e.event e.choice
+
+-- the queue that it came from
+abbrev pub queue_of : Option Taken → Option Target
+queue_of None = None
+queue_of (Some k) = Some k.queue
 
 -- the ids that entries gave to another thread
 abbrev pub renamed_by : Table → List Entry → List ℕ

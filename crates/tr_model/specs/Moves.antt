@@ -14,18 +14,12 @@ use Rattle.tr_tracee.specs.Stops.{entered_as, may_enter, reported}
 use Rattle.tr_tracee.specs.Threads.{in_group, is_leader, tracer_of}
 use Rattle.tr_model.specs.declared.fates.Ending.{Ending}
 use Rattle.tr_model.specs.declared.fates.Fate.{Fate}
+use Rattle.tr_model.specs.declared.raises.Raise.{Raise}
 use Rattle.tr_model.specs.declared.rows.Group.{Group}
 use Rattle.tr_model.specs.declared.rows.Target.{Target}
 use Rattle.tr_model.specs.declared.rows.Target.TheVariants as target
 use Rattle.tr_model.specs.declared.rows.Waiting.{Waiting}
 use Rattle.tr_model.specs.Tables.{Table, thread_of}
-
--- a report as it was raised: on a thread or a group, for a tracer, or with None for the starter
-pub record Raise : Type 0 where
-  pub number : ℕ
-  pub whom : Option ℕ
-  pub id : ℕ
-  pub status : Status
 
 -- The table as it stands, and what the step has done so far: the instances that it ended, the reports that it raised,
 -- the groups whose death it began and those that a KILL was delivered to, and the ids that it gave to another thread.

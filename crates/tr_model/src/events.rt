@@ -78,6 +78,16 @@ pub struct Choice {
     pub new_id: Option<u32>,
 }
 
+impl Choice {
+    /// The choice of an event that leaves nothing open.
+    pub const NONE: Choice = Choice {
+        thread: None,
+        instance: None,
+        report: None,
+        new_id: None,
+    };
+}
+
 /// An entry of the journal: one step.
 #[derive(Clone, Copy, Debug, PartialEq, Eq)]
 pub struct Entry {

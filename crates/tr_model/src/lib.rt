@@ -6,6 +6,7 @@ mod events;
 mod fates;
 mod journals;
 mod laws;
+mod raises;
 mod replies;
 mod rows;
 
@@ -17,5 +18,6 @@ pub use journals::{
     first_accepted_first_taken, tables_are_sound, the_killed_only_die,
 };
 pub use laws::{causes_are_causes, nothing_is_exact, preferred_is_admitted, steps_are_determined};
+pub use raises::Raise;
 pub use replies::{Did, Refusal, Reply};
 pub use rows::{Group, Name, Target, Waiting};

@@ -1,0 +1,4 @@
+pub mod Helds
+pub mod Groups
+pub mod Continues
+pub mod Put

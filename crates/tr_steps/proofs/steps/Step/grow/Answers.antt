@@ -1,0 +1,34 @@
+use Rattle.std.proofs.Common.{◌≡◌, ◌∙◌, ap, arith, length}
+use Rattle.tr_table.specs.Held.{helds}
+use Rattle.tr_steps.proofs.Helds.{helds_few}
+use Rattle.tr_steps.proofs.steps.Step.grow.Goals as goal
+
+pub invariant_of-self-2 : goal.invariant_of-self-2
+invariant_of-self-2 c p =
+    let was = c.self.inside in
+    let v = c.self.view_is in
+    let l = c.in_ok-reserve.ensures.len in
+    let o = c.in_ok-reserve.ensures.ok in
+    let small = c.reserve.new.self.small in
+    let a = c.saturating_add.ensures in
+    let b = c.saturating_add-can_end.ensures in
+    let d = c.queued.ensures in
+    let e = c.thread_count.ensures in
+    let f = helds_few was.table.table.threads in
+    let z : length was.ended.items ≡ 0 = ap (λ x. length x.work.ended) v ∙ ap (λ x. length x.work.ended) c.requires.empty in
+    let t = c.in_ok-reserve-6.ensures.table in
+    let q : length c.reserve-6.new.self.table.waiting ≡ length was.table.table.waiting = ap (λ T. length T.waiting) t in
+    let r : helds c.reserve-6.new.self.table.threads ≡ helds was.table.table.threads = ap (λ T. helds T.threads) t in
+    let n = c.requires.numbers in
+    let x : c.reserve-6.new.self.table.accepted ≡ c.args.self.now.work.table.accepted = ap (λ T. T.accepted) t ∙ ap (λ x. x.work.table.accepted) v in
+    let y : c.reserve-6.new.self.table.raised ≡ c.args.self.now.work.table.raised = ap (λ T. T.raised) t ∙ ap (λ x. x.work.table.raised) v in
+    record {
+      ended = omega arith;
+      raises = c.in_ok-reserve-2.ensures.ok;
+      dying = c.in_ok-reserve-3.ensures.ok;
+      killed = c.in_ok-reserve-4.ensures.ok;
+      renamed = c.in_ok-reserve-5.ensures.ok;
+      waiting = c.in_ok-reserve-6.ensures.ok;
+      accepted = rw x n.0;
+      raised = rw y n.1;
+    }

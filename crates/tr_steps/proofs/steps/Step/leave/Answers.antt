@@ -1,0 +1,28 @@
+use Rattle.std.proofs.Common.{◌≡◌, ap, arith, length, map}
+use Rattle.tr_tracee.specs.Ends.{broken}
+use Rattle.tr_tracee.specs.Threads.{throughout}
+use Rattle.tr_table.specs.Held.{helds}
+use Rattle.tr_steps.proofs.Helds.{helds_leaving}
+use Rattle.tr_steps.proofs.steps.Step.leave.Goals as goal
+
+pub invariant_of-self : goal.invariant_of-self
+invariant_of-self c p =
+    let o = c.self.invariant p in
+    let was = c.self.inside.table.table in
+    let now = c.leave.new.self in
+    let x = o.ended in
+    let u = c.leave.ensures.capacity in
+    let v = c.leave.ensures.len in
+    let a : length now.table.waiting ≡ length was.waiting = ap (λ T. length T.table.waiting) c.leave.ensures.table in
+    let b : helds now.table.threads ≡ helds (map (throughout c.args.tgid (broken c.args.kill c.args.end.now)) was.threads) = ap (λ T. helds T.table.threads) c.leave.ensures.table in
+    let h = helds_leaving c.args.tgid c.args.kill c.args.end.now was.threads in
+    record {
+      ended = omega arith;
+      raises = o.raises;
+      dying = o.dying;
+      killed = o.killed;
+      renamed = o.renamed;
+      waiting = rw (ap (λ T. T.room) c.leave.ensures.table) o.waiting;
+      accepted = rw (ap (λ T. T.table.accepted) c.leave.ensures.table) o.accepted;
+      raised = rw (ap (λ T. T.table.raised) c.leave.ensures.table) o.raised;
+    }

@@ -1,0 +1,49 @@
+use Rattle.std.proofs.Common.{◌≡◌, ◌∙◌, Some, ap, arith, length, refl}
+use Rattle.std.proofs.lemmas.List.{append-nil}
+use Rattle.tr_tracee.specs.declared.thread.Thread.{Thread}
+use Rattle.tr_tracee.specs.Stops.{listening}
+use Rattle.tr_model.specs.declared.fates.Fate.TheVariants.{Flushed}
+use Rattle.tr_model.specs.Moves.{changed}
+use Rattle.tr_model.specs.Tables.{thread_of}
+use Rattle.tr_table.specs.Held.{helds}
+use Rattle.tr_steps.proofs.Put.{changed_put, ends_listening, helds_listening}
+use Rattle.tr_steps.proofs.steps.Step.listen.Goals as goal
+
+pub invariant_of-self : goal.invariant_of-self
+invariant_of-self c p =
+    let was = c.self.inside.table.table in
+    let t = c.args.thread.now in
+    let there : thread_of was t.id ≡ Some t = ap (λ x. thread_of x.work.table t.id) c.self.view_is ∙ c.requires.there in
+    let m : changed t.id (λ (_ : Thread). listening t) was.threads ≡ changed t.id listening was.threads = changed_put t.id listening was.threads t there in
+    let a = c.put_thread.ensures in
+    let b = (rw (c.listen.ensures, m) at a) in
+    let x : helds c.put_thread.new.self.table.threads ≡ helds was.threads = ap (λ v. helds v.table.threads) b ∙ helds_listening was.threads t there in
+    let y : length c.put_thread.new.self.table.waiting ≡ length was.waiting = ap (λ v. length v.table.waiting) b in
+    let o = c.self.invariant p in
+    let e = o.ended in
+    record {
+      ended = omega arith;
+      raises = o.raises;
+      dying = o.dying;
+      killed = o.killed;
+      renamed = o.renamed;
+      waiting = rw (ap (λ v. v.room) b) o.waiting;
+      accepted = rw (ap (λ v. v.table.accepted) b) o.accepted;
+      raised = rw (ap (λ v. v.table.raised) b) o.raised;
+    }
+
+pub returns : goal.returns
+returns c =
+    let was = c.self.inside.table.table in
+    let t = c.args.thread.now in
+    let there : thread_of was t.id ≡ Some t = ap (λ x. thread_of x.work.table t.id) c.self.view_is ∙ c.requires.there in
+    let m : changed t.id (λ (_ : Thread). listening t) was.threads ≡ changed t.id listening was.threads = changed_put t.id listening was.threads t there in
+    let a = c.put_thread.ensures in
+    let b = (rw (c.listen.ensures, m) at a) in
+    let q : c.self.inside.room ≡ c.args.self.now.room = ap (λ x. x.room) c.self.view_is in
+    record {
+      work = rw (← c.self.view_is, b, ends_listening Flushed t, append-nil c.self.inside.ended.items) refl;
+      room = omega arith;
+      groups = rw (← c.self.view_is, b) (omega arith);
+      taken_from = rw (← c.self.view_is) refl;
+    }

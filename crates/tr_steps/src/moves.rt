@@ -1,0 +1,336 @@
+//! The small moves of a step, each the model's move of the same name. None takes memory.
+
+ghost use Rattle.std.specs.Prelude.{◌≡◌, ◌≤◌, ◌<◌, ◌+◌, ◌++◌, ◌==◌, None, OnErr, OnOk, Some, false, is_some, length, vec_len, vec_capacity};
+ghost use Rattle.tr_model.specs.declared.fates.Fate.TheVariants.{Flushed};
+ghost use Rattle.tr_model.specs.Moves.{accept_as, added, alter, become, drop_empty, end_waiting, endings, enqueue, enter, entered_now, note, only_group, pulled, raise, regroup, remove_dead, report_death, take_place, tell_dying, tell_killed};
+ghost use Rattle.tr_model.specs.Requests.{listen, resume};
+ghost use Rattle.tr_model.specs.Tables.{members, same_target, thread_of};
+ghost use Rattle.tr_model.specs.Sends.{flush_in};
+ghost use Rattle.tr_model.specs.Takes.{deliver};
+ghost use Rattle.tr_tracee.specs.declared.life.Stop.TheVariants as stop;
+ghost use Rattle.tr_tracee.specs.Ends.{broken, broken_by_exec};
+ghost use Rattle.tr_tracee.specs.Lives.{held};
+ghost use Rattle.tr_tracee.specs.Marks.{cont_noted, marked};
+ghost use Rattle.tr_tracee.specs.Threads.{only, throughout, tracer_of};
+ghost use Rattle.tr_group.specs.Members.{continued_by};
+ghost use Rattle.tr_table.specs.Changes.{flushes, own, regrouped};
+ghost use Rattle.tr_table.specs.Held.{one};
+ghost use Rattle.tr_steps.specs.UnderWay.{Moves};
+
+use crate::steps::Step;
+use std::alloc::AllocError;
+use tr_model::{Ending, Fate, Raise, Target};
+use tr_pending::{Info, Instance};
+use tr_sigset::Signal;
+use tr_table::{Flush, GroupChange, Own};
+use tr_tracee::{End, Stop, Thread};
+use tr_wait::Status;
+
+impl Step {
+    /// Each live thread of a group that takes no part in the group-stop yet gets the stop mark.
+    #[tactic(auto, using(crate::proofs::Helds::helds_marked))]
+    pub fn mark_all(&mut self, tgid: u32)
+        ensures { Moves (alter (throughout tgid marked)) 0 self.old self.new }
+    {
+        self.table.mark_all(tgid);
+    }
+
+    /// Each signal-delivery-stop of a group notes that a SIGCONT came.
+    #[tactic(auto, using(crate::proofs::Helds::helds_cont_noted))]
+    pub fn note_cont(&mut self, tgid: u32)
+        ensures { Moves (alter (throughout tgid cont_noted)) 0 self.old self.new }
+    {
+        self.table.note_cont(tgid);
+    }
+
+    /// A SIGCONT comes to the threads of a group; `in_effect` says whether a group-stop is in effect.
+    #[tactic(auto, using(crate::proofs::Helds::helds_continued))]
+    pub fn continue_threads(&mut self, tgid: u32, in_effect: bool)
+        ensures { Moves (alter (throughout tgid (continued_by in_effect))) 0 self.old self.new }
+    {
+        self.table.continue_threads(tgid, in_effect);
+    }
+
+    /// What happens to the record of one thread.
+    #[tactic(auto, using(crate::proofs::Helds::helds_own))]
+    pub fn change_thread(&mut self, id: u32, change: &Own)
+        ensures { Moves (alter (only id (own change.now))) 0 self.old self.new }
+    {
+        self.table.change_thread(id, change);
+    }
+
+    /// What happens to the record of one group.
+    #[tactic(auto, using(crate::proofs::Groups::as_many_regrouped))]
+    pub fn change_group(&mut self, tgid: u32, change: &GroupChange)
+        ensures { Moves (regroup (only_group tgid (regrouped change.now))) 0 self.old self.new }
+    {
+        self.table.change_group(tgid, change);
+    }
+
+    /// A note of a group for the starter, with the next report.
+    #[tactic(auto, using(crate::proofs::Groups::as_many_noted))]
+    pub fn note(&mut self, tgid: u32, status: &Status)
+        requires { 1 ≤ self.old.room }
+        ensures { Moves (note tgid status.now) 1 self.old self.new }
+    {
+        self.room -= 1;
+        self.table.note(tgid, status);
+        self.raises.push_reserved(Raise {
+            number: self.table.raised(),
+            whom: None,
+            id: tgid,
+            status: *status,
+        });
+    }
+
+    /// The next signal is accepted and ends at once.
+    pub fn accept_as(&mut self, fate: Fate)
+        requires { 1 ≤ self.old.room }
+        ensures { Moves (accept_as fate) 1 self.old self.new }
+    {
+        self.room -= 1;
+        let number = self.table.accept();
+        self.ended.push_reserved(Ending { number, fate });
+    }
+
+    /// The next signal is accepted and waits for a target.
+    pub fn enqueue(&mut self, signal: Signal, info: &Info, target: Target)
+        requires { 1 ≤ self.old.room }
+        ensures { Moves (enqueue signal info.now target) 1 self.old self.new }
+    {
+        self.room -= 1;
+        self.table.enqueue(signal, info, target);
+    }
+
+    /// Pending signals of a group are flushed.
+    #[tactic(auto, using(crate::proofs::Helds::filter_halves))]
+    pub fn flush(&mut self, tgid: u32, flush: &Flush)
+        requires { 1 ≤ self.old.room }
+        ensures { Moves (flush_in tgid (flushes flush.now)) 0 self.old self.new }
+    {
+        self.table.flush(tgid, flush, &mut self.ended);
+    }
+
+    /// The pending instance of a number is delivered.
+    #[tactic(auto, using(crate::proofs::Helds::filter_halves))]
+    pub fn deliver(&mut self, n: u64)
+        requires { 1 ≤ self.old.room }
+        ensures { Moves (deliver n) 0 self.old self.new }
+    {
+        self.table.deliver(n, &mut self.ended);
+    }
+
+    /// What waits for a target is flushed.
+    #[tactic(auto, using(crate::proofs::Helds::filter_halves))]
+    pub fn flush_queue(&mut self, target: Target)
+        requires { 1 ≤ self.old.room }
+        ensures { Moves (end_waiting Flushed (λ q. same_target target q.target)) 0 self.old self.new }
+    {
+        self.table.flush_queue(target, &mut self.ended);
+    }
+
+    /// A thread enters a ptrace-stop, other than a signal-delivery-stop, if it may.
+    #[tactic(auto, using(crate::proofs::Helds::helds_changed))]
+    pub fn enter(&mut self, id: u32, stop: &Stop)
+        requires { 1 ≤ self.old.room }
+        ensures { Moves (enter id stop.now) 1 self.old self.new }
+    {
+        let Some(thread) = self.table.find(id) else {
+            return;
+        };
+        if thread.life.may_enter() {
+            let thread = *thread;
+            self.enter_now(&thread, stop);
+        }
+    }
+
+    #[tactic(auto, using(crate::proofs::Helds::helds_changed))]
+    fn enter_now(&mut self, thread: &Thread, stop: &Stop)
+        requires { 1 ≤ self.old.room }
+        ensures { Moves (entered_now stop.now thread.now) 1 self.old self.new }
+    {
+        self.room -= 1;
+        self.table.enter(thread.id, stop);
+        self.raises.push_reserved(Raise {
+            number: self.table.raised(),
+            whom: tracer_of(thread),
+            id: thread.id,
+            status: stop.status(),
+        });
+    }
+
+    /// The report of a dead thread's death.
+    pub fn report_death(&mut self, id: u32, end: &End)
+        requires { 1 ≤ self.old.room }
+        ensures { Moves (report_death id end.now) 1 self.old self.new }
+    {
+        let Some(thread) = self.table.find(id) else {
+            return;
+        };
+        if thread.life.is_dead() {
+            let thread = *thread;
+            self.raise(&thread, &end.status());
+        }
+    }
+
+    #[tactic(auto, using(crate::proofs::Helds::helds_changed))]
+    fn raise(&mut self, thread: &Thread, status: &Status)
+        requires { 1 ≤ self.old.room }
+        ensures { Moves (raise thread.now status.now) 1 self.old self.new }
+    {
+        self.room -= 1;
+        self.table.report(thread.id, status);
+        self.raises.push_reserved(Raise {
+            number: self.table.raised(),
+            whom: tracer_of(thread),
+            id: thread.id,
+            status: *status,
+        });
+    }
+
+    /// A dead thread goes.
+    #[tactic(auto, using(crate::proofs::Helds::helds_kept))]
+    pub fn remove_dead(&mut self, id: u32)
+        ensures { Moves (remove_dead (λ t. t.id == id)) 0 self.old self.new }
+    {
+        self.table.remove_dead(id);
+    }
+
+    /// A group without threads goes.
+    #[tactic(auto, using(crate::proofs::Helds::fewer_kept))]
+    pub fn drop_empty(&mut self, tgid: u32)
+        ensures { Moves (drop_empty tgid) 0 self.old self.new }
+    {
+        self.table.remove_group(tgid);
+    }
+
+    /// Each thread of a group that isn't dead begins to leave, and what they held is flushed.
+    pub fn leave(&mut self, tgid: u32, kill: bool, end: &End)
+        requires { 1 ≤ self.old.room }
+        ensures { Moves (become Flushed (throughout tgid (broken kill end.now))) 0 self.old self.new }
+    {
+        self.table.leave(tgid, kill, end, &mut self.ended);
+    }
+
+    /// Each other thread of a group that isn't dead begins to leave, since the thread with the id has called execve(2),
+    /// and what they held is flushed.
+    pub fn leave_for_exec(&mut self, tgid: u32, id: u32, end: &End)
+        requires { 1 ≤ self.old.room }
+        ensures { Moves (become Flushed (throughout tgid (broken_by_exec id end.now))) 0 self.old self.new }
+    {
+        self.table.leave_for_exec(tgid, id, end, &mut self.ended);
+    }
+
+    /// A free thread enters a signal-delivery-stop, which holds the pending instance.
+    #[tactic(auto, using(crate::proofs::Helds::fewer_without, crate::proofs::Helds::helds_changed))]
+    pub fn hold(&mut self, thread: &Thread, instance: &Instance)
+        requires { 1 ≤ self.old.room }
+        ensures { Moves (λ w. entered_now (stop.Signal instance.now false) thread.now (pulled instance.now w)) 1 self.old self.new }
+    {
+        self.room -= 1;
+        self.table.pull(instance.n);
+        let stop = Stop::Signal {
+            held: *instance,
+            cont_came: false,
+        };
+        self.table.enter(thread.id, &stop);
+        self.raises.push_reserved(Raise {
+            number: self.table.raised(),
+            whom: tracer_of(thread),
+            id: thread.id,
+            status: stop.status(),
+        });
+    }
+
+    /// A thread is restarted from its stop, and what that held ends with this fate.
+    pub fn resume(&mut self, thread: &Thread, fate: Fate)
+        requires room { 1 ≤ self.old.room }
+        requires there { thread_of self.old.work.table thread.now.id ≡ Some thread.now }
+        ensures { Moves (resume fate thread.now) 0 self.old self.new }
+    {
+        let mut restarted = *thread;
+        let held = restarted.restart();
+        end_held(&mut self.ended, &held, fate);
+        self.table.put_thread(&restarted);
+    }
+
+    /// A tracee listens, if it is in an event stop; that held nothing.
+    pub fn listen(&mut self, thread: &Thread)
+        requires there { thread_of self.old.work.table thread.now.id ≡ Some thread.now }
+        ensures { Moves (listen thread.now) 0 self.old self.new }
+    {
+        let mut listening = *thread;
+        listening.listen();
+        self.table.put_thread(&listening);
+    }
+
+    /// A new thread comes last in the table. Where memory is refused nothing has changed.
+    #[tactic(auto, using(crate::proofs::Put::helds_added))]
+    pub fn add(&mut self, thread: &Thread) -> Result<(), AllocError>
+        requires new_id { thread_of self.old.work.table thread.now.id ≡ None }
+        requires place { length (members self.old.work.table thread.now.group) < 64 }
+        requires holds_none { held thread.now.life ≡ None }
+        ensures ok { OnOk result (Moves (added thread.now) 0 self.old self.new) }
+        ensures err { OnErr result (self.new ≡ self.old) }
+    {
+        self.table.add(thread)
+    }
+
+    /// An execing thread takes the place and the id of its dead leader, and what waits for it goes with it.
+    pub fn take_place(&mut self, id: u32)
+        requires { 1 ≤ self.old.room }
+        ensures { Moves (take_place id) 1 self.old self.new }
+    {
+        let Some(thread) = self.table.find(id) else {
+            return;
+        };
+        if thread.life.is_execing() && !thread.is_leader() {
+            let leader = thread.group;
+            self.room -= 1;
+            self.table.rename(id);
+            self.renamed.push_reserved(leader);
+        }
+    }
+
+    /// The death of a group began.
+    pub fn tell_dying(&mut self, tgid: u32)
+        requires { 1 ≤ self.old.room }
+        ensures { Moves (tell_dying tgid) 1 self.old self.new }
+    {
+        self.room -= 1;
+        self.dying.push_reserved(tgid);
+    }
+
+    /// A KILL was delivered to a group.
+    pub fn tell_killed(&mut self, tgid: u32)
+        requires { 1 ≤ self.old.room }
+        ensures { Moves (tell_killed tgid) 1 self.old self.new }
+    {
+        self.room -= 1;
+        self.killed.push_reserved(tgid);
+    }
+}
+
+fn tracer_of(thread: &Thread) -> Option<u32>
+    ensures { result ≡ tracer_of thread.now.trace }
+{
+    match &thread.trace {
+        Some(trace) => Some(trace.tracer),
+        None => None,
+    }
+}
+
+/// Appends the instance that a stop held, if it held one, with its fate.
+fn end_held(ended: &mut Vec<Ending>, held: &Option<Instance>, fate: Fate)
+    requires { vec_len ended.old + one (is_some held.now) ≤ vec_capacity ended.old }
+    ensures items { ended.new.items ≡ ended.old.items ++ endings fate held.now None }
+    ensures len { vec_len ended.new ≡ vec_len ended.old + one (is_some held.now) }
+    ensures capacity { vec_capacity ended.new ≡ vec_capacity ended.old }
+{
+    if let Some(held) = held {
+        ended.push_reserved(Ending {
+            number: held.n,
+            fate,
+        });
+    }
+}

@@ -1,0 +1,145 @@
+//! What becomes of an accepted signal: kill(2), tgkill(2), sigqueue(3) and signal(7), by six rules in their order.
+
+ghost use Rattle.std.specs.Prelude.{◌≡◌, ◌≤◌};
+ghost use Rattle.tr_pending.specs.Waiting.{merges};
+ghost use Rattle.tr_model.specs.Sends.{before_send, continue_by_signal, is_ignored, is_open, is_reachable, put, put_unless_ignored, send, send_kill, send_other};
+ghost use Rattle.tr_model.specs.Tables.{queue};
+ghost use Rattle.tr_steps.specs.UnderWay.{Moves};
+
+use crate::steps::Step;
+use tr_model::{Fate, Target};
+use tr_pending::Info;
+use tr_sigset::Signal;
+use tr_table::Flush;
+
+impl Step {
+    // First: KILL is delivered at once, whichever thread it aims at; a group whose threads are all dead flushes it.
+
+    fn send_kill(&mut self, tgid: u32, signal: Signal)
+        requires room { 3 ≤ self.old.room }
+        requires kill { signal ≡ 9 }
+        ensures { Moves (send_kill tgid) 3 self.old self.new }
+    {
+        if self.table().all_dead(tgid) {
+            self.accept_as(Fate::Flushed);
+        } else {
+            self.accept_as(Fate::Delivered);
+            self.kill_group(tgid, signal);
+        }
+    }
+
+    // Second: in a dying group, or at what isn't live, it is flushed.
+
+    fn is_reachable(&self, target: Target) -> bool
+        ensures { result ≡ is_reachable self.now.work.table target }
+    {
+        let table = self.table();
+        let is_live = match target {
+            Target::Thread(id) => table.find(id).is_some_and(|t| t.life.is_live()),
+            Target::Group(tgid) => table.has_live(tgid),
+        };
+        is_live && table.end_of(table.owner(target)).is_none()
+    }
+
+    // Third: a stop signal flushes SIGCONT; SIGCONT flushes stop signals and continues the group.
+
+    fn continue_by_signal(&mut self, tgid: u32)
+        requires { 1 ≤ self.old.room }
+        ensures { Moves (continue_by_signal tgid) 1 self.old self.new }
+    {
+        self.flush(tgid, &Flush::Stops);
+        self.note_cont(tgid);
+        self.continue_all(tgid);
+    }
+
+    fn before_send(&mut self, signal: Signal, tgid: u32)
+        requires { 1 ≤ self.old.room }
+        ensures { Moves (before_send signal tgid) 1 self.old self.new }
+    {
+        if signal.is_stop() {
+            self.flush(tgid, &Flush::Cont);
+        } else if signal.number() == 18 {
+            self.continue_by_signal(tgid);
+        }
+    }
+
+    // Fourth: where the action ignores it, it is flushed if nobody there is traced or blocks it.
+
+    fn is_open(&self, signal: Signal, target: Target) -> bool
+        ensures { result ≡ is_open self.now.work.table signal target }
+    {
+        let table = self.table();
+        match target {
+            Target::Thread(id) => {
+                table
+                    .find(id)
+                    .is_some_and(|t| t.trace.is_none() && !t.mask.has(signal))
+            }
+            Target::Group(tgid) => !table.has_traced(tgid) && !table.some_blocks(tgid, signal),
+        }
+    }
+
+    fn is_ignored(&self, signal: Signal, target: Target) -> bool
+        ensures { result ≡ is_ignored self.now.work.table signal target }
+    {
+        let action = self.table().action_of(self.table().owner(target), signal);
+        action.ignores(signal) && self.is_open(signal, target)
+    }
+
+    // Fifth: a standard signal that waits in the same queue already merges. Sixth: else it is pending.
+
+    fn merges(&self, signal: Signal, target: Target) -> bool
+        ensures { result ≡ merges signal (queue self.now.work.table target) }
+    {
+        !signal.is_real_time() && self.table().is_waiting(target, signal)
+    }
+
+    /// An accepted signal merges with one that waits for the target already, or waits for it.
+    pub fn put(&mut self, signal: Signal, info: &Info, target: Target)
+        requires { 1 ≤ self.old.room }
+        ensures { Moves (put signal info.now target) 1 self.old self.new }
+    {
+        if self.merges(signal, target) {
+            self.accept_as(Fate::Merged);
+        } else {
+            self.enqueue(signal, info, target);
+        }
+    }
+
+    fn put_unless_ignored(&mut self, signal: Signal, info: &Info, target: Target)
+        requires { 1 ≤ self.old.room }
+        ensures { Moves (put_unless_ignored signal info.now target) 1 self.old self.new }
+    {
+        if self.is_ignored(signal, target) {
+            self.accept_as(Fate::Flushed);
+        } else {
+            self.put(signal, info, target);
+        }
+    }
+
+    fn send_other(&mut self, signal: Signal, info: &Info, target: Target)
+        requires { 2 ≤ self.old.room }
+        ensures { Moves (send_other signal info.now target) 2 self.old self.new }
+    {
+        if self.is_reachable(target) {
+            let tgid = self.table().owner(target);
+            self.before_send(signal, tgid);
+            self.put_unless_ignored(signal, info, target);
+        } else {
+            self.accept_as(Fate::Flushed);
+        }
+    }
+
+    /// Sends a signal.
+    pub fn send(&mut self, signal: Signal, info: &Info, target: Target)
+        requires { 3 ≤ self.old.room }
+        ensures { Moves (send signal info.now target) 3 self.old self.new }
+    {
+        if signal.number() == 9 {
+            let tgid = self.table().owner(target);
+            self.send_kill(tgid, signal);
+        } else {
+            self.send_other(signal, info, target);
+        }
+    }
+}

@@ -1,0 +1,187 @@
+ghost use Rattle.std.specs.Prelude.{◌≡◌, ◌+◌, ◌≤◌, IfSome, None, OnOk, Some, length};
+ghost use Rattle.std.specs.Option.{SomeIff};
+ghost use Rattle.tr_model.specs.Moves.{begin};
+ghost use Rattle.tr_model.specs.Tables.{thread_of};
+ghost use Rattle.tr_steps.specs.Places.{CanNumber};
+ghost use Rattle.tr_steps.specs.UnderWay.{begun};
+
+use std::alloc::{AllocError, Global};
+use std::marker::Model;
+use tr_model::{Ending, Raise, Target};
+use tr_table::Table;
+use tr_tracee::Thread;
+
+/// A step under way: the table, and what the step did so far. Between two steps, what the last one did.
+#[derive(Drop)]
+pub struct Step {
+    pub(crate) table: Table,
+    pub(crate) ended: Vec<Ending>,
+    pub(crate) raises: Vec<Raise>,
+    pub(crate) dying: Vec<u32>,
+    pub(crate) killed: Vec<u32>,
+    pub(crate) renamed: Vec<u32>,
+    pub(crate) taken_from: Option<Target>,
+    /// For how many more moves there is a place in each list. 0 between two steps.
+    pub(crate) room: usize,
+}
+
+impl Model for Step {
+    ghost use Rattle.tr_steps.specs.UnderWay.{UnderWay};
+
+    ghost Value = { UnderWay };
+
+    ghost use Rattle.tr_steps.specs.Places.{HasPlaces, seen};
+
+    ghost view = { seen };
+
+    ghost invariant = { HasPlaces };
+}
+
+/// How many moves a step of n moves has with one more for each group. None where so many signals or reports can't be
+/// numbered any more, which a kernel's entry limit rules out.
+fn all_moves(table: &Table, n: usize) -> Option<usize>
+    ensures { SomeIff result (CanNumber table.now.table (length table.now.table.groups + n)) (length table.now.table.groups + n) }
+{
+    let moves = table.groups().len().checked_add(n)?;
+    let _accepted = table.accepted().checked_add(moves as u64)?;
+    let _raised = table.raised().checked_add(moves as u64)?;
+    Some(moves)
+}
+
+impl Step {
+    /// No step has begun yet at this table. It takes no memory.
+    pub fn new(table: Table, alloc: Global) -> Step
+        ensures { result ≡ begun table.table }
+    {
+        Step {
+            table,
+            ended: Vec::new(alloc),
+            raises: Vec::new(alloc),
+            dying: Vec::new(alloc),
+            killed: Vec::new(alloc),
+            renamed: Vec::new(alloc),
+            taken_from: None,
+            room: 0,
+        }
+    }
+
+    /// The table as it stands.
+    pub fn table(&self) -> &Table
+        ensures { result.now.table ≡ self.now.work.table }
+    {
+        &self.table
+    }
+
+    /// The record of a thread, as it stands.
+    pub fn thread(&self, id: u32) -> Option<Thread>
+        ensures found { result ≡ thread_of self.now.work.table id }
+        ensures own_id { IfSome result (λ t. thread_of self.now.work.table t.id ≡ Some t) }
+    {
+        self.table.find(id).copied()
+    }
+
+    /// The instances that the step ended, and how, in order.
+    pub fn ended(&self) -> &[Ending]
+        ensures { result.now ≡ self.now.work.ended }
+    {
+        self.ended.as_slice()
+    }
+
+    /// The reports that the step raised, in order.
+    pub fn raises(&self) -> &[Raise]
+        ensures { result.now ≡ self.now.work.raises }
+    {
+        self.raises.as_slice()
+    }
+
+    /// The groups whose death the step began, in order.
+    pub fn dying(&self) -> &[u32]
+        ensures { result.now ≡ self.now.work.dying }
+    {
+        self.dying.as_slice()
+    }
+
+    /// The groups that a KILL was delivered to, in order.
+    pub fn killed(&self) -> &[u32]
+        ensures { result.now ≡ self.now.work.killed }
+    {
+        self.killed.as_slice()
+    }
+
+    /// The ids that the step gave to another thread.
+    pub fn renamed(&self) -> &[u32]
+        ensures { result.now ≡ self.now.work.renamed }
+    {
+        self.renamed.as_slice()
+    }
+
+    /// Whose queue a take took from. None in every other step.
+    pub fn taken_from(&self) -> Option<Target>
+        ensures { result ≡ self.now.taken_from }
+    {
+        self.taken_from
+    }
+
+    /// Writes down whose queue this step, a take, takes from.
+    pub fn take_from(&mut self, queue: Target)
+        ensures { self.new ≡ record self.old { taken_from = Some queue } }
+    {
+        self.taken_from = Some(queue);
+    }
+
+    /// The number that the next accepted signal gets.
+    pub fn next_number(&self) -> u64
+        requires { 1 ≤ self.now.room }
+        ensures { result ≡ self.now.work.table.accepted + 1 }
+    {
+        self.table.accepted() + 1
+    }
+
+    /// Begins a step, with places for n moves and one more for each group. Where memory is refused, or the numbers are
+    /// used up, the table stays as it was.
+    pub fn begin(&mut self, n: usize) -> Result<(), AllocError>
+        ensures work { self.new.work ≡ begin self.old.work.table }
+        ensures taken_from { self.new.taken_from ≡ None }
+        ensures room { OnOk result (length self.new.work.table.groups + n ≤ self.new.room) }
+    {
+        self.clear();
+        match all_moves(&self.table, n) {
+            Some(moves) => self.grow(moves),
+            None => Err(AllocError),
+        }
+    }
+
+    fn clear(&mut self)
+        ensures { self.new ≡ begun self.old.work.table }
+    {
+        self.room = 0;
+        self.ended.clear();
+        self.raises.clear();
+        self.dying.clear();
+        self.killed.clear();
+        self.renamed.clear();
+        self.taken_from = None;
+    }
+
+    /// Places in an empty log for all that so many moves may log, and in the table for all that they may queue.
+    fn grow(&mut self, moves: usize) -> Result<(), AllocError>
+        requires empty { self.old ≡ begun self.old.work.table }
+        requires numbers { CanNumber self.old.work.table moves }
+        ensures work { self.new.work ≡ self.old.work }
+        ensures taken_from { self.new.taken_from ≡ self.old.taken_from }
+        ensures room { OnOk result (self.new.room ≡ moves) }
+    {
+        let can_end = self
+            .table
+            .queued()
+            .saturating_add(self.table.thread_count());
+        self.ended.reserve(can_end.saturating_add(moves))?;
+        self.raises.reserve(moves)?;
+        self.dying.reserve(moves)?;
+        self.killed.reserve(moves)?;
+        self.renamed.reserve(moves)?;
+        self.table.reserve(moves)?;
+        self.room = moves;
+        Ok(())
+    }
+}
