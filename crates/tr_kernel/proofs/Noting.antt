@@ -1,9 +1,6 @@
 -- The notes of one entry more.
-use Rattle.std.proofs.Common.{◌≡◌, ℕ, ◌+◌, ◌<◌, ◌≤◌, ◌^◌, List, [], ◌∷◌, ◌++◌, length, Ok, Some, None, Option, refl, sym, ap, ap₂, ◌∙◌, subst, arith, append_assoc, append-nil, length-append, Bool, true, false, ◌&&◌, ◌==◌, if◌then◌else◌, not}
+use Rattle.std.proofs.Common.{suc, ◌≡◌, ℕ, ◌+◌, ◌<◌, ◌≤◌, ◌^◌, List, [], ◌∷◌, ◌++◌, length, Ok, Some, refl, sym, ap, ap₂, ◌∙◌, subst, arith, append_assoc, append-nil, length-append, Bool, true, false, ◌==◌, if◌then◌else◌}
 use Rattle.tr_pending.specs.Waiting.{best_of}
-use Rattle.tr_tracee.specs.declared.thread.Thread.{Thread}
-use Rattle.tr_tracee.specs.Lives.{is_execing}
-use Rattle.tr_tracee.specs.Threads.{is_leader}
 use Rattle.tr_model.specs.declared.checked.Checked.TheVariants.{Due}
 use Rattle.tr_model.specs.declared.events.Choice.{Choice}
 use Rattle.tr_model.specs.declared.events.Entry.{Entry}
@@ -13,7 +10,7 @@ use Rattle.tr_model.specs.declared.replies.Reply.{Reply}
 use Rattle.tr_model.specs.declared.replies.Reply.TheVariants as reply
 use Rattle.tr_model.specs.declared.rows.Target.{Target}
 use Rattle.tr_model.specs.declared.rows.Target.TheVariants as target
-use Rattle.tr_model.specs.Journals.{DistinctIds, IsSorted, Replay, occurs, renamed_by, taken_by, taken_of}
+use Rattle.tr_model.specs.Journals.{DistinctIds, IsSorted, Replay, occurs, queue_of, renamed_by, taken_by, taken_of}
 use Rattle.tr_model.specs.Moves.{instance_in}
 use Rattle.tr_model.specs.Preferred.{check}
 use Rattle.tr_model.specs.Steps
@@ -24,7 +21,6 @@ use Rattle.tr_model.proofs.OneFate.{occurs-append}
 use Rattle.tr_model.proofs.Ordered.{waiting_is_sorted}
 use Rattle.tr_model.proofs.Standing.{ids_are_distinct}
 use Rattle.tr_model.proofs.Takable.{best_is_chosen}
-use Rattle.tr_signals.specs.Takes.{queue_of}
 use Rattle.tr_signals.proofs.Taking.{IsDue, is_due}
 use Rattle.tr_signals.proofs.TakingAny.{is_due_any}
 use Rattle.tr_table.specs.Starts.{table_of}
@@ -32,11 +28,11 @@ use Rattle.tr_kernel.specs.declared.notes.Mark.TheVariants.{Nothing, Take}
 use Rattle.tr_kernel.specs.declared.notes.Note.{Note}
 use Rattle.tr_kernel.specs.declared.notes.Passed.{Passed}
 use Rattle.tr_kernel.specs.Notes.{IsNoted, dying_by, is_some_group, mark_of, note_of, notes_from, notes_of, passes, take_mark, times}
-use Rattle.tr_kernel.specs.Private.{PassOn, mark_after, mark_before, noted, passed_by, passed_id, passes_in}
+use Rattle.tr_kernel.specs.Private.{PassOn, mark_after, mark_before, noted, passes_in}
 use Rattle.tr_kernel.specs.States.{IsHistory, State}
 use Rattle.tr_kernel.proofs.Begun.{is_start}
 use Rattle.tr_kernel.proofs.Checks.{dues, take_any_numbered, take_numbered}
-use Rattle.tr_kernel.proofs.Logs.{passed_is}
+use Rattle.tr_kernel.proofs.Logs.{renames_few}
 
 -- The mark of a take
 
@@ -108,27 +104,19 @@ renamed_push T U (e ∷ es) (r ∷ rs) x h =
 
 -- An id passes on at most once with each entry
 
-one_passes : (T : Table) (id : ℕ) (e : Event) → occurs id (passed_by T e) ≤ 1
-one_passes T id (event.Finish t) = go (thread_of T t)
+few_occurs : (id : ℕ) (xs : List ℕ) → occurs id xs ≤ length xs
+few_occurs id [] = omega arith
+few_occurs id (x ∷ xs) = go (x == id) (few_occurs id xs)
   where
-    one : (g : ℕ) (b : Bool) → (if b then 1 else 0) + 0 ≤ 1
-    one g true = omega arith
-    one g false = omega arith
-
-    by : (g : ℕ) (b : Bool) → occurs id (if b then g ∷ [] else []) ≤ 1
-    by g true = one g (g == id)
-    by g false = omega arith
-
-    go : (o : Option Thread) → occurs id (passed_id o) ≤ 1
-    go None = omega arith
-    go (Some t) = by t.group (is_execing t.life && not (is_leader t))
-one_passes T id _ = omega arith
+    go : (b : Bool) → occurs id xs ≤ length xs → (if b then 1 else 0) + occurs id xs ≤ suc (length xs)
+    go true h = omega (arith, h)
+    go false h = omega (arith, h)
 
 few_pass : (T : Table) (id : ℕ) (es : List Entry) → occurs id (renamed_by T es) ≤ length es
 few_pass T id [] = omega arith
 few_pass T id (e ∷ es) =
     let w = work_of T e in
-    omega (arith, occurs-append id w.renamed (renamed_by w.table es), few_pass w.table id es, one_passes T id e.event, ap (occurs id) (passed_is T e))
+    omega (arith, occurs-append id w.renamed (renamed_by w.table es), few_pass w.table id es, few_occurs id w.renamed, renames_few T e)
 
 pub few_times : (T : Table) (es : List Entry) (ns : List Note) (gs : List ℕ) (ps : List Passed) → IsNoted T es ns gs ps → length es < 2 ^ 32 → (id : ℕ) → times id ps < 2 ^ 32
 few_times T es ns gs ps n l id = omega (arith, few_pass T id es, n.passed id, l)
@@ -139,7 +127,7 @@ pub noted_begins : (T : Table) → IsNoted T [] [] [] []
 noted_begins T = record { notes = refl; dying = refl; passed = λ id. refl }
 
 pub noted_goes_on : (k : State) (x : Entry) (ns : List Note) (gs : List ℕ) (ps qs : List Passed) → IsHistory k → IsNoted (table_of k.start) k.journal ns gs ps → check k.table x.actor x.event ≡ Ok (Due x.choice)
-    → PassOn (passed_by k.table x.event) ps qs
+    → PassOn (work_of k.table x).renamed ps qs
     → IsNoted (table_of k.start) (k.journal ++ x ∷ []) (ns ++ noted ps (length gs) k.table x ∷ []) (gs ++ (work_of k.table x).dying) qs
 noted_goes_on k x ns gs ps qs h n d more =
     let T = table_of k.start in
@@ -153,6 +141,6 @@ noted_goes_on k x ns gs ps qs h n d more =
       dying = ap (λ y. y ++ (work_of k.table x).dying) n.dying ∙ sym (dying_push T k.table k.journal k.replies x h.replayed);
       passed = λ id.
           more.counts id
-          ∙ (ap₂ (λ a b. a + b) (n.passed id) (ap (occurs id) (sym (passed_is k.table x)))
+          ∙ (ap (λ a. a + occurs id (work_of k.table x).renamed) (n.passed id)
           ∙ (sym (occurs-append id (renamed_by T k.journal) (work_of k.table x).renamed) ∙ ap (occurs id) (sym (renamed_push T k.table k.journal k.replies x h.replayed))));
     }

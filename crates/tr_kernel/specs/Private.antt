@@ -1,9 +1,6 @@
 -- What private functions answer, by the fates and notes that they keep: no public contract cites these.
 use Rattle.std.specs.Prelude.{◌≡◌, ℕ, ◌+◌, ◌-◌, ◌<◌, ◌≤◌, ◌==◌, ◌&&◌, ◌||◌, zero, suc, List, [], ◌∷◌, ◌++◌, Bool, false, not, Option, Some, None, length, slice_get, take, drop, filter, replicate, if◌then◌else◌}
 use Rattle.std.specs.List.{list_any}
-use Rattle.tr_tracee.specs.declared.thread.Thread.{Thread}
-use Rattle.tr_tracee.specs.Lives.{is_execing}
-use Rattle.tr_tracee.specs.Threads.{is_leader}
 use Rattle.tr_model.specs.declared.events.Choice.{Choice}
 use Rattle.tr_model.specs.declared.events.Entry.{Entry}
 use Rattle.tr_model.specs.declared.events.Event.{Event}
@@ -16,12 +13,11 @@ use Rattle.tr_model.specs.declared.replies.Reply.{Reply}
 use Rattle.tr_model.specs.declared.replies.Reply.TheVariants as reply
 use Rattle.tr_model.specs.declared.rows.Target.{Target}
 use Rattle.tr_model.specs.declared.rows.Target.TheVariants as target
-use Rattle.tr_model.specs.Journals.{occurs, same_fate, taken}
+use Rattle.tr_model.specs.Journals.{occurs, queue_of, same_fate, taken}
 use Rattle.tr_model.specs.Moves.{Work}
 use Rattle.tr_model.specs.Steps.{after, number, work_of}
 use Rattle.tr_model.specs.Tables.{Table, thread_of}
 use Rattle.tr_model.specs.Waits.{ready_thread}
-use Rattle.tr_signals.specs.Takes.{queue_of}
 use Rattle.tr_kernel.specs.declared.notes.Mark.{Mark}
 use Rattle.tr_kernel.specs.declared.notes.Mark.TheVariants.{Nothing, Take, Exec}
 use Rattle.tr_kernel.specs.declared.notes.Note.{Note}
@@ -68,16 +64,6 @@ abbrev pub fates_after : List Fate → Work → List Fate
 fates_after fs w = endings_noted w.ended (fs ++ replicate (w.table.accepted - length fs) Pending)
 
 -- Ids that pass on
-
--- the id that a finish gives to another thread: the leader's, which is the group's
-abbrev pub passed_id : Option Thread → List ℕ
-passed_id None = []
-passed_id (Some t) = if is_execing t.life && not (is_leader t) then t.group ∷ [] else []
-
--- the ids that an event gives to another thread
-abbrev pub passed_by : Table → Event → List ℕ
-passed_by T (event.Finish id) = passed_id (thread_of T id)
-passed_by T _ = []
 
 -- each id has passed on as often as before, and these once more
 pub record PassOn (ids : List ℕ) (old new : List Passed) : Type 0 where

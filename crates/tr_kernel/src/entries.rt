@@ -4,15 +4,15 @@ ghost use Rattle.tr_model.specs.Preferred.{check};
 ghost use Rattle.tr_model.specs.Steps.{after, work_of};
 ghost use Rattle.tr_kernel.specs.Laws.{report_of};
 ghost use Rattle.tr_kernel.specs.Notes.{times};
-ghost use Rattle.tr_kernel.specs.Private.{PassOn, fates_after, noted, passed_by};
+ghost use Rattle.tr_kernel.specs.Private.{PassOn, fates_after, noted};
 ghost use Rattle.tr_kernel.specs.States.{AcceptsFew};
 
 use crate::events::change;
 use crate::fates::{accept, append, note_all};
-use crate::notes::{Notes, mark_before, passing};
+use crate::notes::{Notes, mark_before};
 use std::alloc::{AllocError, Global};
 use tr_model::{Choice, Entry, Event, Fate, Reply};
-use tr_signals::recycle;
+use tr_steps::Step;
 use tr_table::Table;
 
 /// The most signals that one entry accepts: one for each thread of a tracer that ends.
@@ -48,7 +48,7 @@ fn copied(reply: &Reply) -> Reply
 /// memory comes first. Where memory is refused nothing has changed.
 #[tactic(auto, using(crate::proofs::Logs::deaths_few))]
 pub(crate) fn write_entry(
-    table: &mut Table,
+    step: &mut Step,
     journal: &mut Vec<Entry>,
     replies: &mut Vec<Reply>,
     fates: &mut Vec<Fate>,
@@ -58,19 +58,19 @@ pub(crate) fn write_entry(
     event: &Event,
     choice: &Choice,
 ) -> Result<Reply, AllocError>
-    requires due { check table.old.table actor event.now ≡ Ok (Due choice.now) }
+    requires due { check step.old.work.table actor event.now ≡ Ok (Due choice.now) }
     requires few_passes { (id : ℕ) → times id notes.old.passed.items < 2 ^ 32 }
-    requires counted { length fates.old.items ≡ table.old.table.accepted }
-    requires bounded { AcceptsFew table.old.table (after table.old.table (record { actor = actor; event = event.now; choice = choice.now })).work.table }
-    ensures table { OnOk result (table.new.table ≡ (after table.old.table (record { actor = actor; event = event.now; choice = choice.now })).work.table) }
-    ensures reply { IfOk result (λ r. r ≡ (after table.old.table (record { actor = actor; event = event.now; choice = choice.now })).reply) }
+    requires counted { length fates.old.items ≡ step.old.work.table.accepted }
+    requires bounded { AcceptsFew step.old.work.table (after step.old.work.table (record { actor = actor; event = event.now; choice = choice.now })).work.table }
+    ensures table { OnOk result (step.new.work.table ≡ (after step.old.work.table (record { actor = actor; event = event.now; choice = choice.now })).work.table) }
+    ensures reply { IfOk result (λ r. r ≡ (after step.old.work.table (record { actor = actor; event = event.now; choice = choice.now })).reply) }
     ensures journal { OnOk result (journal.new.items ≡ journal.old.items ++ record { actor = actor; event = event.now; choice = choice.now } ∷ []) }
     ensures replies { IfOk result (λ r. replies.new.items ≡ replies.old.items ++ r ∷ []) }
-    ensures fates { OnOk result (fates.new.items ≡ fates_after fates.old.items (after table.old.table (record { actor = actor; event = event.now; choice = choice.now })).work) }
-    ensures notes { OnOk result (notes.new.list.items ≡ notes.old.list.items ++ noted notes.old.passed.items (length notes.old.dying.items) table.old.table (record { actor = actor; event = event.now; choice = choice.now }) ∷ []) }
-    ensures dying { OnOk result (notes.new.dying.items ≡ notes.old.dying.items ++ (work_of table.old.table (record { actor = actor; event = event.now; choice = choice.now })).dying) }
-    ensures passed { OnOk result (PassOn (passed_by table.old.table event.now) notes.old.passed.items notes.new.passed.items) }
-    ensures err_table { OnErr result (table.new.table ≡ table.old.table) }
+    ensures fates { OnOk result (fates.new.items ≡ fates_after fates.old.items (after step.old.work.table (record { actor = actor; event = event.now; choice = choice.now })).work) }
+    ensures notes { OnOk result (notes.new.list.items ≡ notes.old.list.items ++ noted notes.old.passed.items (length notes.old.dying.items) step.old.work.table (record { actor = actor; event = event.now; choice = choice.now }) ∷ []) }
+    ensures dying { OnOk result (notes.new.dying.items ≡ notes.old.dying.items ++ (work_of step.old.work.table (record { actor = actor; event = event.now; choice = choice.now })).dying) }
+    ensures passed { OnOk result (PassOn (work_of step.old.work.table (record { actor = actor; event = event.now; choice = choice.now })).renamed notes.old.passed.items notes.new.passed.items) }
+    ensures err_table { OnErr result (step.new.work.table ≡ step.old.work.table) }
     ensures err_journal { OnErr result (journal.new.items ≡ journal.old.items) }
     ensures err_replies { OnErr result (replies.new.items ≡ replies.old.items) }
     ensures err_fates { OnErr result (fates.new.items ≡ fates.old.items) }
@@ -81,21 +81,18 @@ pub(crate) fn write_entry(
     journal.reserve(1)?;
     replies.reserve(1)?;
     fates.reserve(ACCEPTED_AT_ONCE)?;
-    notes.reserve(deaths_at_once(table))?;
-    let mark = mark_before(table, actor, event, choice);
-    let passing = passing(table, event);
-    let made = change(table, alloc, actor, event, choice)?;
-    accept(fates, table.accepted() as usize - fates.len());
-    note_all(fates, &made.ended);
-    notes.note(mark, &made, passing);
+    notes.reserve(deaths_at_once(step.table()))?;
+    let mark = mark_before(step.table(), actor, event, choice);
+    let reply = change(step, alloc, actor, event, choice)?;
+    accept(fates, step.table().accepted() as usize - fates.len());
+    note_all(fates, step.ended());
+    notes.note(mark, step, &reply);
     let entry = Entry {
         actor,
         event: *event,
         choice: *choice,
     };
     append(journal, &entry);
-    append(replies, &made.reply);
-    let reply = copied(&made.reply);
-    recycle(table, made);
-    Ok(reply)
+    append(replies, &reply);
+    Ok(copied(&reply))
 }

@@ -1,26 +1,23 @@
 ghost use Rattle.std.specs.Prelude.{◌≡◌, IfOk, OnErr, Ok};
 ghost use Rattle.tr_model.specs.declared.checked.Checked.TheVariants.{Due};
-ghost use Rattle.tr_model.specs.Journals.{taken};
 ghost use Rattle.tr_model.specs.Preferred.{check};
-ghost use Rattle.tr_model.specs.Steps.{after};
-ghost use Rattle.tr_signals.specs.Makes.{Makes};
-ghost use Rattle.tr_signals.specs.Takes.{queue_of};
+ghost use Rattle.tr_steps.specs.UnderWay.{IsStepOf};
 
 use std::alloc::{AllocError, Global};
-use tr_model::{Checked, Choice, Event, Refusal};
+use tr_model::{Checked, Choice, Event, Refusal, Reply};
 use tr_requests::{
     attach, check_attach, check_clone_thread, check_cont, check_detach, check_die,
     check_event_message, check_exec, check_exit, check_exit_group, check_finish, check_interrupt,
     check_listen, check_seize, check_set_options, check_signal_info, check_starter_wait,
-    check_tracer_exit, check_trap, check_wait, clone_thread, cont, detach, die, exec, exit,
-    exit_group, finish, interrupt, listen, seize, set_options, starter_wait, tracer_exit, trap,
-    wait,
+    check_tracer_exit, check_wait, clone_thread, cont, detach, die, exec, exit, exit_group, finish,
+    interrupt, listen, seize, set_options, starter_wait, tracer_exit, wait,
 };
 use tr_signals::{
-    Made, check_halt, check_kill, check_mask, check_pause, check_set_action, check_sigqueue,
-    check_take, check_take_any, check_tgkill, halt, kill, mask, pause, set_action, sigqueue, take,
-    take_any, tgkill,
+    check_halt, check_kill, check_mask, check_pause, check_set_action, check_sigqueue, check_take,
+    check_take_any, check_tgkill, check_trap, halt, kill, mask, pause, set_action, sigqueue, take,
+    take_any, tgkill, trap,
 };
+use tr_steps::Step;
 use tr_table::Table;
 
 // Which call serves an event.
@@ -63,59 +60,50 @@ pub(crate) fn check(table: &Table, actor: u32, event: &Event) -> Result<Checked,
 
 /// Makes an event that is due. Where memory is refused nothing has changed.
 pub(crate) fn change(
-    table: &mut Table,
+    step: &mut Step,
     alloc: Global,
     actor: u32,
     event: &Event,
     choice: &Choice,
-) -> Result<Made, AllocError>
-    requires { check table.old.table actor event.now ≡ Ok (Due choice.now) }
-    ensures made { IfOk result (λ m. Makes m table.new.table (after table.old.table (record { actor = actor; event = event.now; choice = choice.now }))) }
-    ensures taken_from { IfOk result (λ m. m.taken_from ≡ queue_of (taken table.old.table (record { actor = actor; event = event.now; choice = choice.now }))) }
-    ensures err { OnErr result (table.new.table ≡ table.old.table) }
+) -> Result<Reply, AllocError>
+    requires { check step.old.work.table actor event.now ≡ Ok (Due choice.now) }
+    ensures did { IfOk result (IsStepOf step.old.work.table (record { actor = actor; event = event.now; choice = choice.now }) step.new) }
+    ensures err { OnErr result (step.new.work.table ≡ step.old.work.table) }
 {
     match event {
-        Event::Kill { tgid, sig } => kill(table, alloc, actor, *tgid, *sig),
-        Event::Tgkill { tgid, tid, sig } => tgkill(table, alloc, actor, *tgid, *tid, *sig),
-        Event::Sigqueue { tgid, sig, value } => sigqueue(table, alloc, actor, *tgid, *sig, *value),
-        Event::Mask { tid, set } => mask(table, alloc, actor, *tid, *set),
-        Event::SetAction { tid, sig, how } => set_action(table, alloc, actor, *tid, *sig, *how),
-        Event::Pause { tid } => pause(table, alloc, actor, *tid),
-        Event::Take { tid } => take(table, alloc, actor, *tid, choice.instance.unwrap()),
+        Event::Kill { tgid, sig } => kill(step, actor, *tgid, *sig),
+        Event::Tgkill { tgid, tid, sig } => tgkill(step, actor, *tgid, *tid, *sig),
+        Event::Sigqueue { tgid, sig, value } => sigqueue(step, actor, *tgid, *sig, *value),
+        Event::Mask { tid, set } => mask(step, actor, *tid, *set),
+        Event::SetAction { tid, sig, how } => set_action(step, actor, *tid, *sig, *how),
+        Event::Pause { tid } => pause(step, actor, *tid),
+        Event::Take { tid } => take(step, actor, *tid, choice.instance.unwrap()),
         Event::TakeAny { tgid } => take_any(
-            table,
-            alloc,
+            step,
             actor,
             *tgid,
             choice.thread.unwrap(),
             choice.instance.unwrap(),
         ),
-        Event::Halt { tid } => halt(table, alloc, actor, *tid),
-        Event::Trap { tid } => trap(table, alloc, actor, *tid),
-        Event::Die { tid } => die(table, alloc, actor, *tid),
-        Event::CloneThread { tid } => clone_thread(
-            table,
-            alloc,
-            actor,
-            *tid,
-            choice.new_id.unwrap(),
-        ),
-        Event::Exec { tid } => exec(table, alloc, actor, *tid),
-        Event::Finish { tid } => finish(table, alloc, actor, *tid),
-        Event::Exit { tid, code } => exit(table, alloc, actor, *tid, *code),
-        Event::ExitGroup { tid, code } => exit_group(table, alloc, actor, *tid, *code),
-        Event::Attach { tid } => attach(table, alloc, actor, *tid),
-        Event::Seize { tid, options } => seize(table, alloc, actor, *tid, *options),
-        Event::Interrupt { tid } => interrupt(table, alloc, actor, *tid),
-        Event::Cont { tid, sig } => cont(table, alloc, actor, *tid, *sig),
-        Event::Listen { tid } => listen(table, alloc, actor, *tid),
-        Event::Detach { tid, sig } => detach(table, alloc, actor, *tid, *sig),
-        Event::SetOptions { tid, options } => set_options(table, alloc, actor, *tid, *options),
-        Event::TracerExit => tracer_exit(table, alloc, actor),
-        Event::Wait { which } => wait(table, alloc, actor, *which, choice.report.unwrap()),
+        Event::Halt { tid } => halt(step, actor, *tid),
+        Event::Trap { tid } => trap(step, actor, *tid),
+        Event::Die { tid } => die(step, actor, *tid),
+        Event::CloneThread { tid } => clone_thread(step, actor, *tid, choice.new_id.unwrap()),
+        Event::Exec { tid } => exec(step, actor, *tid),
+        Event::Finish { tid } => finish(step, actor, *tid),
+        Event::Exit { tid, code } => exit(step, actor, *tid, *code),
+        Event::ExitGroup { tid, code } => exit_group(step, actor, *tid, *code),
+        Event::Attach { tid } => attach(step, actor, *tid),
+        Event::Seize { tid, options } => seize(step, actor, *tid, *options),
+        Event::Interrupt { tid } => interrupt(step, actor, *tid),
+        Event::Cont { tid, sig } => cont(step, actor, *tid, *sig),
+        Event::Listen { tid } => listen(step, actor, *tid),
+        Event::Detach { tid, sig } => detach(step, actor, *tid, *sig),
+        Event::SetOptions { tid, options } => set_options(step, actor, *tid, *options),
+        Event::TracerExit => tracer_exit(step, alloc, actor),
+        Event::Wait { which } => wait(step, actor, *which, choice.report.unwrap()),
         Event::StarterWait { which, flags } => starter_wait(
-            table,
-            alloc,
+            step,
             actor,
             *which,
             *flags,

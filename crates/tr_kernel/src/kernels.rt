@@ -23,6 +23,7 @@ use crate::restarts::first_restart;
 use std::alloc::{AllocError, Global};
 use std::marker::Model;
 use tr_model::{Checked, Choice, Entry, Event, Fate, Refusal, Reply, Totals};
+use tr_steps::Step;
 use tr_table::{Start, Table};
 
 /// Why a kernel can't start.
@@ -39,7 +40,7 @@ pub enum StartFault {
 #[derive(Drop)]
 pub struct Kernel {
     start: Start,
-    table: Table,
+    step: Step,
     journal: Vec<Entry>,
     replies: Vec<Reply>,
     fates: Vec<Fate>,
@@ -54,9 +55,9 @@ impl Model for Kernel {
 
     ghost Value = { State };
 
-    ghost view = { λ k. record { start = k.start; table = k.table.table; journal = k.journal.items; replies = k.replies.items; fates = k.fates.items } };
+    ghost view = { λ k. record { start = k.start; table = k.step.work.table; journal = k.journal.items; replies = k.replies.items; fates = k.fates.items } };
 
-    ghost invariant = { λ k. IsHistory (record { start = k.start; table = k.table.table; journal = k.journal.items; replies = k.replies.items; fates = k.fates.items }) × IsNoted (table_of k.start) k.journal.items k.notes.list.items k.notes.dying.items k.notes.passed.items };
+    ghost invariant = { λ k. IsHistory (record { start = k.start; table = k.step.work.table; journal = k.journal.items; replies = k.replies.items; fates = k.fates.items }) × IsNoted (table_of k.start) k.journal.items k.notes.list.items k.notes.dying.items k.notes.passed.items };
 }
 
 impl Kernel {
@@ -72,7 +73,7 @@ impl Kernel {
         match Table::open(&start, alloc) {
             Ok(table) => Ok(Kernel {
                 start,
-                table,
+                step: Step::new(table, alloc),
                 journal: Vec::new(alloc),
                 replies: Vec::new(alloc),
                 fates: Vec::new(alloc),
@@ -94,7 +95,7 @@ impl Kernel {
     pub fn table(&self) -> &Table
         ensures { result.now.table ≡ self.now.table }
     {
-        &self.table
+        self.step.table()
     }
 
     /// The entries so far. They replay from the start's table to the table held; every accepted signal waits, is held,
@@ -131,7 +132,7 @@ impl Kernel {
         ensures totals { result ≡ totals (table_of self.now.start) self.now.journal self.now.table }
         ensures sum { result.pending + result.merged + result.delivered + result.suppressed + result.flushed ≡ result.accepted }
     {
-        tally(&self.fates, self.table.accepted())
+        tally(&self.fates, self.step.table().accepted())
     }
 
     /// The report that the wait at a position, from 1, consumed; None where the entry there isn't a wait of a tracer or
@@ -199,11 +200,11 @@ impl Kernel {
         ensures full { IsDue self.old actor event → self.old.table.entries ≤ length self.old.journal → result ≡ Refused Refusal.JournalFull }
         ensures history { IsHistory self.new }
     {
-        match check(&self.table, actor, &event) {
+        match check(self.step.table(), actor, &event) {
             Err(why) => Answer::Refused(why),
             Ok(Checked::Quiet(reply)) => Answer::Read(reply),
             Ok(Checked::Due(choice)) => {
-                if self.journal.len() >= self.table.entries() as usize {
+                if self.journal.len() >= self.step.table().entries() as usize {
                     return Answer::Refused(Refusal::JournalFull);
                 }
                 match self.enter_with_receipt(actor, &event, &choice) {
@@ -268,7 +269,7 @@ impl Kernel {
         ensures history { IsHistory self.new }
     {
         let made = write_entry(
-            &mut self.table,
+            &mut self.step,
             &mut self.journal,
             &mut self.replies,
             &mut self.fates,

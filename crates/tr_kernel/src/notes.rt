@@ -1,14 +1,13 @@
-ghost use Rattle.std.specs.Prelude.{◌≡◌, ◌≤◌, ◌<◌, ◌+◌, ◌++◌, ◌∷◌, ◌^◌, [], ℕ, false, length, not, option_copied, slice_get, vec_len, vec_capacity, ◌&&◌, OnOk};
-ghost use Rattle.tr_model.specs.Journals.{chosen};
+ghost use Rattle.std.specs.Prelude.{◌≡◌, ◌≤◌, ◌<◌, ◌+◌, ◌++◌, ◌∷◌, ◌^◌, [], ℕ, false, length, not, option_copied, slice_get, vec_len, vec_capacity, OnOk};
 ghost use Rattle.tr_kernel.specs.Notes.{exec_mark, is_some_group, is_stop_status, shows_stop, stop_mark, times};
-ghost use Rattle.tr_kernel.specs.Private.{PassOn, killed_in, mark_after, mark_before, mark_in, passed_by, passed_id, passes_in};
+ghost use Rattle.tr_kernel.specs.Private.{PassOn, killed_in, mark_after, mark_before, mark_in, passes_in};
 
 use crate::fates::{append, at_position};
 use std::alloc::{AllocError, Global};
 use tr_model::{Choice, Event, Reply, Target};
 use tr_requests::ready_thread;
-use tr_signals::Made;
 use tr_sigset::Signal;
+use tr_steps::Step;
 use tr_table::Table;
 use tr_tracee::{Report, Thread};
 use tr_wait::Status;
@@ -132,31 +131,6 @@ pub(crate) fn mark_before(table: &Table, actor: u32, event: &Event, choice: &Cho
     }
 }
 
-fn passed_id(thread: Option<&Thread>) -> Option<u32>
-    ensures { chosen result ≡ passed_id (option_copied thread.entry) }
-{
-    match thread {
-        Some(thread) => {
-            if thread.life.is_execing() && !thread.is_leader() {
-                Some(thread.group)
-            } else {
-                None
-            }
-        }
-        None => None,
-    }
-}
-
-/// The id that an event gives to another thread.
-pub(crate) fn passing(table: &Table, event: &Event) -> Option<u32>
-    ensures { chosen result ≡ passed_by table.now.table event.now }
-{
-    match event {
-        Event::Finish { tid } => passed_id(table.find(*tid)),
-        _ => None,
-    }
-}
-
 // What passed on
 
 /// How often an id passed on.
@@ -196,13 +170,14 @@ fn bump(passed: &mut Vec<Passed>, id: u32)
     append(passed, &Passed { id, times: 1 });
 }
 
-fn bump_some(passed: &mut Vec<Passed>, id: Option<u32>)
+fn bump_first(passed: &mut Vec<Passed>, ids: &[u32])
     requires room { vec_len passed.old < vec_capacity passed.old }
     requires few { (n : ℕ) → times n passed.old.items < 2 ^ 32 }
-    ensures { PassOn (chosen id) passed.old.items passed.new.items }
+    requires one { length ids.now ≤ 1 }
+    ensures { PassOn ids.now passed.old.items passed.new.items }
 {
-    if let Some(id) = id {
-        bump(passed, id);
+    if let Some(id) = ids.first() {
+        bump(passed, *id);
     }
 }
 
@@ -284,23 +259,23 @@ impl Notes {
         self.passed.reserve(1)
     }
 
-    /// Notes an entry, for which there is room: what it was before the step, what the step made, and the id that passed
-    /// on.
-    pub(crate) fn note(&mut self, mark: Mark, made: &Made, passing: Option<u32>)
+    /// Notes an entry, for which there is room: what it was before the step, and what the step made.
+    pub(crate) fn note(&mut self, mark: Mark, step: &Step, reply: &Reply)
         requires list { vec_len self.old.list < vec_capacity self.old.list }
-        requires dying { vec_len self.old.dying + length made.now.dying.items ≤ vec_capacity self.old.dying }
+        requires dying { vec_len self.old.dying + length step.now.work.dying ≤ vec_capacity self.old.dying }
         requires passed { vec_len self.old.passed < vec_capacity self.old.passed }
         requires few { (n : ℕ) → times n self.old.passed.items < 2 ^ 32 }
-        ensures list { self.new.list.items ≡ self.old.list.items ++ record { mark = mark_after mark made.now.taken_from self.old.passed.items made.now.reply; killed = is_some_group made.now.killed.items; deaths = length self.old.dying.items + length made.now.dying.items } ∷ [] }
-        ensures dying { self.new.dying.items ≡ self.old.dying.items ++ made.now.dying.items }
-        ensures passed { PassOn (chosen passing) self.old.passed.items self.new.passed.items }
+        requires one { length step.now.work.renamed ≤ 1 }
+        ensures list { self.new.list.items ≡ self.old.list.items ++ record { mark = mark_after mark step.now.taken_from self.old.passed.items reply.now; killed = is_some_group step.now.work.killed; deaths = length self.old.dying.items + length step.now.work.dying } ∷ [] }
+        ensures dying { self.new.dying.items ≡ self.old.dying.items ++ step.now.work.dying }
+        ensures passed { PassOn step.now.work.renamed self.old.passed.items self.new.passed.items }
     {
-        let mark = mark_after(mark, &made.reply, made.taken_from, &self.passed);
-        append_all(&mut self.dying, &made.dying);
-        bump_some(&mut self.passed, passing);
+        let mark = mark_after(mark, reply, step.taken_from(), &self.passed);
+        append_all(&mut self.dying, step.dying());
+        bump_first(&mut self.passed, step.renamed());
         let note = Note {
             mark,
-            killed: !made.killed.is_empty(),
+            killed: !step.killed().is_empty(),
             deaths: self.dying.len() as u64,
         };
         append(&mut self.list, &note);

@@ -19,7 +19,6 @@ use Rattle.tr_model.specs.Preferred.{check, clone_choice, new_id, quiet_or, refu
 use Rattle.tr_model.specs.Steps.{gives_id, is_new, number}
 use Rattle.tr_model.specs.Tables.{Table, group_of, members, thread_of}
 use Rattle.tr_model.specs.Takes.{can_take}
-use Rattle.tr_table.specs.Held.{helds}
 use Rattle.tr_requests.proofs.Restarting.{refused_due}
 
 pub record IsClone (T : Table) (tid id : ℕ) : Type 0 where
@@ -59,6 +58,10 @@ is_clone T a tid id e = go (thread_of T tid) refl e
     go None h q = absurd (refused_due Srch (gives_id id) q)
     go (Some t) h q = by t h (is_free t.life && not t.pausing) (has_mark t || can_take T t) (at_limit T t) refl refl q
 
+-- a look-up has one answer
+pub same_thread : (a b : Thread) → Some a ≡ Some b → a ≡ b
+same_thread a b e = cc
+
 -- a new id is no thread's
 pub no_thread : (T : Table) (id : ℕ) → is_new T id ≡ true → thread_of T id ≡ None
 no_thread T id e =
@@ -70,11 +73,6 @@ no_thread T id e =
     none : (o : Option Thread) → not (is_some o) ≡ true → o ≡ None
     none None h = refl
     none (Some t) h = cc
-
--- a child holds nothing
-pub helds_added : (id : ℕ) (mark : Bool) (t : Thread) (ts : List Thread) → helds (ts ++ child id mark t ∷ []) ≡ helds ts
-helds_added id mark t [] = refl
-helds_added id mark t (x ∷ xs) = omega (arith, helds_added id mark t xs)
 
 -- What a check answers
 

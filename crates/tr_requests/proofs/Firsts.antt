@@ -1,10 +1,11 @@
 -- The first number of lists joined, and whether a filter leaves anything.
 use Rattle.std.proofs.Common.{◌≡◌, ℕ, List, [], ◌∷◌, ◌++◌, Bool, true, false, not, ◌||◌, filter, if◌then◌else◌, refl}
 use Rattle.std.specs.List.{list_any}
+use Rattle.std.specs.Option.{option_or}
 use Rattle.tr_model.specs.Takes.{is_empty}
-use Rattle.tr_requests.specs.Waits.{first_number, or_number}
+use Rattle.tr_requests.specs.Private.{first_number}
 
-pub first_append : (xs ys : List ℕ) → first_number (xs ++ ys) ≡ or_number (first_number xs) (first_number ys)
+pub first_append : (xs ys : List ℕ) → first_number (xs ++ ys) ≡ option_or (first_number xs) (first_number ys)
 first_append [] ys = refl
 first_append (x ∷ xs) ys = refl
 

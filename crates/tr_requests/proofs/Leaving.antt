@@ -1,6 +1,5 @@
 -- The tracees that a tracer leaves.
-use Rattle.std.proofs.Common.{◌≡◌, ◌∙◌, ℕ, ◌+◌, ◌<◌, ◌&&◌, List, [], ◌∷◌, Bool, true, false, not, Ok, if◌then◌else◌, filter, length, drop, refl, sym, ap, arith}
-use Rattle.std.proofs.lemmas.List.{drop_more}
+use Rattle.std.proofs.Common.{◌≡◌, ℕ, ◌&&◌, List, [], ◌∷◌, Bool, true, false, not, Ok, if◌then◌else◌, filter, refl, sym, ap}
 use Rattle.tr_tracee.specs.declared.thread.Thread.{Thread}
 use Rattle.tr_tracee.specs.Lives.{is_dead}
 use Rattle.tr_tracee.specs.Threads.{is_tracee_of, options_of}
@@ -15,7 +14,7 @@ use Rattle.tr_model.specs.Requests.{tracees}
 use Rattle.tr_model.specs.Steps.{no_choice}
 use Rattle.tr_model.specs.Tables.{Table}
 use Rattle.tr_requests.proofs.Firsts.{any_is_left}
-use Rattle.tr_requests.specs.Tracers.{to_kill_among, tracees_among}
+use Rattle.tr_requests.specs.Private.{to_kill_among, tracees_among}
 
 pub killed_of_tracees : (a : ℕ) (ts : List Thread) → to_kill_among ts a ≡ filter (λ t. (options_of t.trace).exitkill && not (is_dead t.life)) (tracees_among ts a)
 killed_of_tracees a [] = refl
@@ -29,10 +28,6 @@ killed_of_tracees a (t ∷ ts) = go (is_tracee_of a t) (killed_of_tracees a ts)
         ≡ filter (λ t. (options_of t.trace).exitkill && not (is_dead t.life)) (if b then t ∷ tracees_among ts a else tracees_among ts a)
     go true h = ap (λ us. if (options_of t.trace).exitkill && not (is_dead t.life) then t ∷ us else us) h
     go false h = h
-
--- what is left of a list is one less
-pub left_one : (xs : List ℕ) (i : ℕ) → i < length xs → length (drop i xs) ≡ length (drop (i + 1) xs) + 1
-left_one xs i h = ap length (drop_more xs i 0 h) ∙ omega arith
 
 -- whether a tracer has tracees
 

@@ -1,7 +1,2 @@
-pub mod Clones
-pub mod Execs
-pub mod Exits
-pub mod Restarts
-pub mod Tracers
-pub mod Tracing
 pub mod Waits
+pub mod Private

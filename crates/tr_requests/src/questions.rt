@@ -1,3 +1,5 @@
+//! What a tracer asks at a ptrace-stop: `PTRACE_GETEVENTMSG` and `PTRACE_GETSIGINFO` of ptrace(2). Neither makes an entry.
+
 ghost use Rattle.std.specs.Prelude.{◌≡◌};
 ghost use Rattle.tr_model.specs.declared.events.Event.TheVariants.{EventMessage, SignalInfo};
 ghost use Rattle.tr_model.specs.Preferred.{check};
@@ -6,8 +8,6 @@ use crate::tracing::stopped;
 use tr_model::{Checked, Refusal, Reply};
 use tr_table::Table;
 use tr_tracee::{Life, Stop};
-
-// What a tracer asks at a ptrace-stop: `PTRACE_GETEVENTMSG` and `PTRACE_GETSIGINFO` of ptrace(2). Neither makes an entry.
 
 /// What a tracer's question for a stop's message is answered: ESRCH where the thread isn't a tracee of the actor in a
 /// ptrace-stop, then Unmodelled at a stop that has no message, else the message: the new thread's id, the id before

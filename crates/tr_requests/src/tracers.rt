@@ -1,33 +1,27 @@
-ghost use Rattle.std.specs.Prelude.{◌≡◌, ◌+◌, ◌*◌, ◌≤◌, ◌&&◌, ℕ, IfOk, None, Ok, OnErr, Some, filter, length, map, not};
+//! What becomes of the tracees of a tracer that ends: "PTRACE_O_EXITKILL" and "Attaching and detaching" of ptrace(2).
+
+ghost use Rattle.std.specs.Prelude.{◌≡◌, ◌≤◌, ◌*◌, IfOk, Ok, OnErr, Some, length};
+ghost use Rattle.std.specs.List.{list_any};
+ghost use Rattle.tr_tracee.specs.Lives.{held};
+ghost use Rattle.tr_tracee.specs.Threads.{is_tracee_of};
 ghost use Rattle.tr_model.specs.declared.checked.Checked.TheVariants.{Due};
 ghost use Rattle.tr_model.specs.declared.events.Event.TheVariants.{TracerExit};
-ghost use Rattle.std.specs.List.{list_any};
-ghost use Rattle.tr_model.specs.Moves.{Work, at, each};
+ghost use Rattle.tr_model.specs.Moves.{at, each};
 ghost use Rattle.tr_model.specs.Preferred.{check};
 ghost use Rattle.tr_model.specs.Requests.{detach, exit_kill, held_signal, ids, leave_tracer, lose_tracer};
-ghost use Rattle.tr_model.specs.Steps.{after, no_choice};
+ghost use Rattle.tr_model.specs.Steps.{no_choice};
 ghost use Rattle.tr_model.specs.Tables.{thread_of};
-ghost use Rattle.tr_table.specs.Changes.{tgids};
-ghost use Rattle.tr_table.specs.declared.logs.Log.{Log};
-ghost use Rattle.tr_tracee.specs.Lives.{held, is_dead};
-ghost use Rattle.tr_tracee.specs.Threads.{is_tracee_of, options_of};
-ghost use Rattle.tr_signals.specs.Makes.{Makes};
-ghost use Rattle.tr_signals.specs.Shows.{Room, Shows};
-ghost use Rattle.tr_requests.specs.Tracers.{is_to_kill, tracees_among, to_kill_among};
+ghost use Rattle.tr_steps.specs.UnderWay.{IsStepOf, Moves, entry};
+ghost use Rattle.tr_requests.specs.Private.{is_to_kill, to_kill_among, tracees_among};
 
 use crate::restarts::detach_thread;
 use crate::waits::consume_death;
 use std::alloc::{AllocError, Global};
-use tr_model::{Checked, Refusal, Reply};
-use tr_signals::Made;
-use tr_signals::log::{NO_CHOICE, reserve};
-use tr_signals::sends::deliver_kill;
-use tr_signals::stops::finish;
+use tr_model::{Checked, Choice, Fate, Refusal, Reply};
 use tr_sigset::Signal;
-use tr_table::{Log, Table};
+use tr_steps::Step;
+use tr_table::Table;
 use tr_tracee::Thread;
-
-// What becomes of the tracees of a tracer that ends: "PTRACE_O_EXITKILL" and "Attaching and detaching" of ptrace(2).
 
 fn is_to_kill(thread: &Thread, actor: u32) -> bool
     ensures { result ≡ is_to_kill actor thread.now }
@@ -57,28 +51,25 @@ fn to_kill(threads: &[Thread], alloc: Global, actor: u32) -> Result<Vec<u32>, Al
         .collect(alloc)
 }
 
-fn kill_at(table: &mut Table, log: &mut Log, id: u32)
-    requires { Room table.old log.old 3 }
-    ensures shows { (w : Work) → Shows table.old log.old w → Shows table.new log.new (at id exit_kill w) }
-    ensures room { (n : ℕ) → Room table.old log.old (((n + 1) + 1) + 1) → Room table.new log.new n }
-    ensures tgids { tgids table.new.table ≡ tgids table.old.table }
+fn kill_at(step: &mut Step, id: u32)
+    requires { 3 ≤ step.old.room }
+    ensures { Moves (at id exit_kill) 3 step.old step.new }
 {
     let kill = Signal::new(9).unwrap();
-    if let Some(thread) = table.find(id) {
+    if let Some(thread) = step.thread(id) {
         let tgid = thread.group;
-        deliver_kill(table, log, tgid, kill);
+        step.accept_as(Fate::Delivered);
+        step.kill_group(tgid, kill);
     }
 }
 
 /// Each of these threads' groups is killed, in their order.
-fn kill_each(table: &mut Table, log: &mut Log, ids: &[u32])
-    requires { Room table.old log.old (3 * length ids.now) }
-    ensures shows { (w : Work) → Shows table.old log.old w → Shows table.new log.new (each ids.now (λ id. at id exit_kill) w) }
-    ensures room { (n : ℕ) → Room table.old log.old (3 * length ids.now + n) → Room table.new log.new n }
-    ensures tgids { tgids table.new.table ≡ tgids table.old.table }
+fn kill_each(step: &mut Step, ids: &[u32])
+    requires { 3 * length ids.now ≤ step.old.room }
+    ensures { Moves (each ids.now (λ id. at id exit_kill)) (3 * length ids.now) step.old step.new }
 {
     for i in 0..ids.len() {
-        kill_at(table, log, ids[i]);
+        kill_at(step, ids[i]);
     }
 }
 
@@ -93,56 +84,47 @@ fn held_number(thread: &Thread) -> u8
     }
 }
 
-fn leave_living(table: &mut Table, log: &mut Log, thread: &Thread)
-    requires room { Room table.old log.old 3 }
-    requires there { thread_of table.old.table thread.now.id ≡ Some thread.now }
-    ensures shows { (w : Work) → Shows table.old log.old w → Shows table.new log.new (detach (held_signal (held thread.now.life)) thread.now w) }
-    ensures room { (n : ℕ) → Room table.old log.old (((n + 1) + 1) + 1) → Room table.new log.new n }
-    ensures tgids { tgids table.new.table ≡ tgids table.old.table }
+fn leave_living(step: &mut Step, thread: &Thread)
+    requires room { 3 ≤ step.old.room }
+    requires there { thread_of step.old.work.table thread.now.id ≡ Some thread.now }
+    ensures { Moves (detach (held_signal (held thread.now.life)) thread.now) 3 step.old step.new }
 {
     let signal = Signal::new(held_number(thread));
-    detach_thread(table, log, thread, signal);
+    detach_thread(step, thread, signal);
 }
 
-fn leave(table: &mut Table, log: &mut Log, thread: &Thread)
-    requires room { Room table.old log.old 3 }
-    requires there { thread_of table.old.table thread.now.id ≡ Some thread.now }
-    ensures shows { (w : Work) → Shows table.old log.old w → Shows table.new log.new (leave_tracer thread.now w) }
-    ensures room { (n : ℕ) → Room table.old log.old (((n + 1) + 1) + 1) → Room table.new log.new n }
-    ensures fewer { length (tgids table.new.table) ≤ length (tgids table.old.table) }
+/// A tracee is left with what it holds; a dead one goes, but a leader stays for the starter.
+fn leave_tracer(step: &mut Step, thread: &Thread)
+    requires room { 3 ≤ step.old.room }
+    requires there { thread_of step.old.work.table thread.now.id ≡ Some thread.now }
+    ensures { Moves (leave_tracer thread.now) 3 step.old step.new }
 {
     if thread.life.is_dead() {
-        consume_death(table, log, thread);
+        consume_death(step, thread);
     } else {
-        leave_living(table, log, thread);
+        leave_living(step, thread);
     }
 }
 
 /// The thread, if the actor traces it, is left with what it holds.
-fn leave_at(table: &mut Table, log: &mut Log, actor: u32, id: u32)
-    requires { Room table.old log.old 3 }
-    ensures shows { (w : Work) → Shows table.old log.old w → Shows table.new log.new (at id (lose_tracer actor) w) }
-    ensures room { (n : ℕ) → Room table.old log.old (((n + 1) + 1) + 1) → Room table.new log.new n }
-    ensures fewer { length (tgids table.new.table) ≤ length (tgids table.old.table) }
+fn leave_at(step: &mut Step, actor: u32, id: u32)
+    requires { 3 ≤ step.old.room }
+    ensures { Moves (at id (lose_tracer actor)) 3 step.old step.new }
 {
-    let Some(thread) = table.find(id) else {
-        return;
-    };
-    if thread.is_tracee_of(actor) {
-        let thread = *thread;
-        leave(table, log, &thread);
+    if let Some(thread) = step.thread(id) {
+        if thread.is_tracee_of(actor) {
+            leave_tracer(step, &thread);
+        }
     }
 }
 
 /// Each of these threads is left by its tracer, in their order.
-fn leave_each(table: &mut Table, log: &mut Log, actor: u32, ids: &[u32])
-    requires { Room table.old log.old (3 * length ids.now) }
-    ensures shows { (w : Work) → Shows table.old log.old w → Shows table.new log.new (each ids.now (λ id. at id (lose_tracer actor)) w) }
-    ensures room { (n : ℕ) → Room table.old log.old (3 * length ids.now + n) → Room table.new log.new n }
-    ensures fewer { length (tgids table.new.table) ≤ length (tgids table.old.table) }
+fn leave_each(step: &mut Step, actor: u32, ids: &[u32])
+    requires { 3 * length ids.now ≤ step.old.room }
+    ensures { Moves (each ids.now (λ id. at id (lose_tracer actor))) (3 * length ids.now) step.old step.new }
 {
     for i in 0..ids.len() {
-        leave_at(table, log, actor, ids[i]);
+        leave_at(step, actor, ids[i]);
     }
 }
 
@@ -157,7 +139,7 @@ pub fn check_tracer_exit(table: &Table, actor: u32) -> Result<Checked, Refusal>
     ensures { result ≡ check table.now.table actor TracerExit }
 {
     if has_tracee(table.threads(), actor) {
-        Ok(Checked::Due(NO_CHOICE))
+        Ok(Checked::Due(Choice::NONE))
     } else {
         Ok(Checked::Quiet(Reply::Nothing))
     }
@@ -167,16 +149,16 @@ pub fn check_tracer_exit(table: &Table, actor: u32) -> Result<Checked, Refusal>
 /// table order; then each tracee is left, in table order: detached with the number that it holds, else with 0. A dead one
 /// goes, but a leader stays, and its report passes to the starter. Where memory is refused, or the numbers are used up,
 /// nothing has changed.
-pub fn tracer_exit(table: &mut Table, alloc: Global, actor: u32) -> Result<Made, AllocError>
-    requires due { check table.old.table actor TracerExit ≡ Ok (Due no_choice) }
-    ensures did { IfOk result (λ m. Makes m table.new.table (after table.old.table (record { actor = actor; event = TracerExit; choice = no_choice }))) }
-    ensures taken_from { IfOk result (λ m. m.taken_from ≡ None) }
-    ensures err { OnErr result (table.new.table ≡ table.old.table) }
+pub fn tracer_exit(step: &mut Step, alloc: Global, actor: u32) -> Result<Reply, AllocError>
+    requires due { check step.old.work.table actor TracerExit ≡ Ok (Due no_choice) }
+    ensures did { IfOk result (IsStepOf step.old.work.table (entry actor TracerExit) step.new) }
+    ensures err { OnErr result (step.new.work.table ≡ step.old.work.table) }
 {
-    let killed = to_kill(table.threads(), alloc, actor)?;
-    let left = tracees(table.threads(), alloc, actor)?;
-    let mut log = reserve(table, alloc, 3 * killed.len() + 3 * left.len())?;
-    kill_each(table, &mut log, &killed);
-    leave_each(table, &mut log, actor, &left);
-    Ok(finish(table, log, &Reply::Done))
+    let killed = to_kill(step.table().threads(), alloc, actor)?;
+    let left = tracees(step.table().threads(), alloc, actor)?;
+    step.begin(3 * killed.len() + 3 * left.len())?;
+    kill_each(step, &killed);
+    leave_each(step, actor, &left);
+    step.settle();
+    Ok(Reply::Done)
 }

@@ -1,6 +1,5 @@
 -- What a take that is due takes, and what the model makes of it.
-use Rattle.std.proofs.Common.{◌≡◌, ◌==◌, ◌∙◌, ℕ, List, [], ◌∷◌, Bool, true, false, not, if◌then◌else◌, Option, Some, None, Result, Ok, Err, refl, sym, ap, subst}
-use Rattle.std.proofs.lemmas.Bool.{eqb-true}
+use Rattle.std.proofs.Common.{◌≡◌, ◌∙◌, ℕ, [], ◌∷◌, Bool, true, false, not, Option, Some, None, Result, Ok, Err, refl, sym, ap, subst}
 use Rattle.tr_pending.specs.declared.instance.Instance.{Instance}
 use Rattle.tr_tracee.specs.declared.life.Life.{Life}
 use Rattle.tr_tracee.specs.declared.life.Life.TheVariants as life
@@ -14,21 +13,25 @@ use Rattle.tr_model.specs.declared.checked.Checked.TheVariants.{Due, Quiet}
 use Rattle.tr_model.specs.declared.events.Event.TheVariants.{Take}
 use Rattle.tr_model.specs.declared.replies.Refusal.{Refusal}
 use Rattle.tr_model.specs.declared.replies.Refusal.TheVariants.{NotRunning, Busy}
+use Rattle.tr_model.specs.declared.rows.Target.{Target}
 use Rattle.tr_model.specs.declared.rows.Target.TheVariants as target
 use Rattle.tr_pending.specs.Waiting.{best_of}
 use Rattle.tr_model.specs.Causes.{can_take_thread, first, nothing_where, thread_then, unless, where_is}
-use Rattle.tr_model.specs.Journals.{IsSorted, taken_by}
+use Rattle.tr_model.specs.Journals.{IsSorted, queue_of, taken_by}
 use Rattle.tr_model.specs.Moves.{Work, at, begin, entered_now, hold, holding, instance_in, on_instance, on_thread, pulled}
 use Rattle.tr_model.specs.Preferred.{best_for, check, quiet_or, refused_or, take_choice, taking}
 use Rattle.tr_model.specs.Steps.{takes_instance}
-use Rattle.tr_model.specs.Tables.{Table, queue, thread_in, thread_of}
+use Rattle.tr_model.specs.Tables.{Table, queue, thread_of}
 use Rattle.tr_model.specs.Takes.{can_take, choices, numbered, take, take_numbered, taken_from}
 use Rattle.tr_model.proofs.Takable.{best_is_chosen}
 use Rattle.tr_model.specs.declared.replies.Reply.{Reply}
 use Rattle.tr_model.specs.GroupStops.{settle}
 use Rattle.tr_model.specs.Steps.{Outcome}
 use Rattle.tr_model.specs.Steps as Steps
-use Rattle.tr_signals.specs.Takes.{Takes, queue_of, take_outcome}
+use Rattle.std.specs.Prelude.{IfOk}
+use Rattle.tr_steps.proofs.Put.{id_found}
+use Rattle.tr_steps.specs.UnderWay.{ComesTo, UnderWay}
+use Rattle.tr_signals.specs.Private.{Takes, take_outcome}
 
 -- A free thread that holds an instance enters its signal-delivery-stop
 
@@ -89,18 +92,6 @@ is_due T a id n e = go (thread_of T id) refl e
     go None f q = absurd (none_some n (ap chosen q))
     go (Some t) f q = with_thread t f (is_free t.life) (has_mark t) refl q
 
--- the thread that is found by an id has it
-pub id_found : (id : ℕ) (ts : List Thread) (t : Thread) → thread_in ts id ≡ Some t → t.id ≡ id
-id_found id [] t e = absurd (none e)
-  where
-    none : None ≡ Some t → ⊥
-    none q = cc
-id_found id (x ∷ xs) t e = go (x.id == id) refl e (id_found id xs t)
-  where
-    go : (b : Bool) → (x.id == id) ≡ b → (if b then Some x else thread_in xs id) ≡ Some t → (thread_in xs id ≡ Some t → t.id ≡ id) → t.id ≡ id
-    go true h q r = let same : x ≡ t = cc in ap (λ z. z.id) (sym same) ∙ eqb-true x.id id h
-    go false h q r = r q
-
 -- What the model makes of it
 
 pub record Took (T : Table) (id n : ℕ) (t : Thread) (i : Instance) : Type 0 where
@@ -142,3 +133,7 @@ joined r q v w e f = ap (λ (x : Reply). record { reply = x; work = v }) e ∙ a
 
 pub outcome_is : (T : Table) (id n : ℕ) (t : Thread) (i : Instance) → thread_of T id ≡ Some t → instance_in T.waiting n ≡ Some i → Took T id n t i → take_outcome T t i ≡ numbered_outcome T id n
 outcome_is T id n t i e f k = joined _ _ _ _ (sym (ap (λ o. Steps.took T o (instance_in T.waiting n)) e ∙ ap (λ o. Steps.took T (Some t) o) f)) (ap settle (sym k.does))
+
+-- a step that came to this came to whatever is equal
+pub comes_as : {E : Type 0} (r : Result Reply E) (o p : Outcome) (q s : Option Target) (u : UnderWay) → o ≡ p → q ≡ s → IfOk r (ComesTo o q u) → IfOk r (ComesTo p s u)
+comes_as r o p q s u e f h = subst (λ x. IfOk r (ComesTo x s u)) e (subst (λ x. IfOk r (ComesTo o x u)) f h)

@@ -1,153 +1,198 @@
-//! Group-stops: "Group-stop" of ptrace(2).
+//! How a thread serves its marks: "Group-stop" and "PTRACE_EVENT stops" of ptrace(2).
 
-ghost use Rattle.std.specs.Prelude.{◌≡◌, ◌+◌, ◌<◌, ℕ, not, ◌&&◌, None, is_some, length};
-ghost use Rattle.tr_wait.specs.declared.status.Status.TheVariants as status;
-ghost use Rattle.tr_group.specs.GroupStops.{is_complete, is_stopping};
-ghost use Rattle.tr_model.specs.GroupStops.{continue_all, ended_stop, fill_stop, initiate, note_stop, settle, settle_group};
-ghost use Rattle.tr_model.specs.Moves.{Work, note, only_group, regroup, when};
-ghost use Rattle.tr_model.specs.Tables.{group_of, has_stop_mark, has_traced, stop_in_effect, stop_of};
-ghost use Rattle.tr_table.specs.Changes.{tgids};
-ghost use Rattle.tr_signals.specs.Makes.{Makes};
-ghost use Rattle.tr_signals.specs.Shows.{Room, Shows};
-ghost use Rattle.tr_table.specs.declared.logs.Log.{Log};
+ghost use Rattle.std.specs.Prelude.{◌≡◌, ◌≤◌, ℕ, IfOk, Ok, OnErr, if◌then◌else◌};
+ghost use Rattle.tr_wait.specs.Words.{stop_sig_of};
+ghost use Rattle.tr_tracee.specs.declared.life.Stop.TheVariants as stop;
+ghost use Rattle.tr_tracee.specs.Threads.{seized};
+ghost use Rattle.tr_model.specs.declared.checked.Checked.TheVariants.{Due};
+ghost use Rattle.tr_model.specs.declared.events.Event.TheVariants.{Halt, Trap};
+ghost use Rattle.tr_model.specs.Moves.{at};
+ghost use Rattle.tr_model.specs.Preferred.{check};
+ghost use Rattle.tr_model.specs.Steps.{no_choice};
+ghost use Rattle.tr_model.specs.Stops.{at_stop, halt, show, show_stop, stop_with, trap, trap_at};
+ghost use Rattle.tr_steps.specs.UnderWay.{IsStepOf, Moves, entry};
+ghost use Rattle.tr_signals.specs.Private.{halt_traced, halt_untraced};
 
-use crate::log::Made;
-use crate::moves::{change_group, continue_threads, mark_all, note};
-use tr_model::Reply;
+use std::alloc::AllocError;
+use tr_model::{Checked, Choice, Refusal, Reply};
 use tr_sigset::Signal;
-use tr_table::{GroupChange, Log, Table};
-use tr_wait::Status;
+use tr_steps::Step;
+use tr_table::{Own, Table};
+use tr_tracee::{Stop, Thread};
+use tr_wait::StopSig;
 
-/// The signal of the group-stop in effect.
-pub fn stop_now(table: &Table, tgid: u32) -> Option<Signal>
-    ensures { (l : Log) (w : Work) → Shows table.now l w → result ≡ stop_in_effect w.table tgid }
+fn stop_of(thread: &Thread, signal: Signal) -> Stop
+    ensures { result ≡ (if seized thread.now.trace then stop.Event (stop_sig_of signal) else stop.Group signal) }
 {
-    table.stop_of(tgid).signal()
-}
-
-fn is_untraced(table: &Table, tgid: u32) -> bool
-    ensures { (l : Log) (w : Work) → Shows table.now l w → result ≡ not (has_traced w.table tgid) }
-{
-    !table.has_traced(tgid)
-}
-
-fn tells_starter(table: &Table, tgid: u32) -> bool
-    ensures { (l : Log) (w : Work) → Shows table.now l w → result ≡ (is_complete (stop_of (group_of w.table tgid)) && not (has_traced w.table tgid)) }
-{
-    table.stop_of(tgid).is_complete() && !table.has_traced(tgid)
-}
-
-fn is_full(table: &Table, tgid: u32) -> bool
-    ensures { (l : Log) (w : Work) → Shows table.now l w → result ≡ (is_stopping (stop_of (group_of w.table tgid)) && not (has_stop_mark w.table tgid)) }
-{
-    table.stop_of(tgid).is_stopping() && !table.has_stop_mark(tgid)
-}
-
-fn note_where(table: &mut Table, log: &Log, holds: bool, tgid: u32, status: &Status)
-    requires { Room table.old log.now 1 }
-    ensures shows { (l : Log) (w : Work) → Shows table.old l w → Shows table.new l (when holds (note tgid status.now) w) }
-    ensures room { (l : Log) (n : ℕ) → Room table.old l (n + 1) → Room table.new l n }
-    ensures tgids { tgids table.new.table ≡ tgids table.old.table }
-{
-    if holds {
-        note(table, log, tgid, status);
+    if thread.is_seized() {
+        Stop::Event(StopSig::of(signal))
+    } else {
+        Stop::Group(signal)
     }
 }
 
-/// A group-stop begins.
-pub fn initiate(table: &mut Table, tgid: u32, signal: Signal)
-    ensures shows { (l : Log) (w : Work) → Shows table.old l w → Shows table.new l (initiate tgid signal w) }
-    ensures room { (l : Log) (n : ℕ) → Room table.old l n → Room table.new l n }
-    ensures tgids { tgids table.new.table ≡ tgids table.old.table }
+/// A tracee shows a group-stop by this signal: an attached one as a stop by the signal, a seized one as
+/// `PTRACE_EVENT_STOP`.
+fn stop_with(step: &mut Step, thread: &Thread, signal: Signal)
+    requires { 1 ≤ step.old.room }
+    ensures { Moves (stop_with thread.now signal) 1 step.old step.new }
 {
-    change_group(table, tgid, &GroupChange::Begin(signal));
-    mark_all(table, tgid);
+    step.enter(thread.id, &stop_of(thread, signal));
 }
 
-fn end_stop_where(table: &mut Table, log: &Log, ends: bool, tells: bool, tgid: u32)
-    requires { Room table.old log.now 1 }
-    ensures shows { (l : Log) (w : Work) → Shows table.old l w → Shows table.new l (when ends (λ u. when tells (note tgid status.Continued) (regroup (only_group tgid ended_stop) u)) w) }
-    ensures room { (l : Log) (n : ℕ) → Room table.old l (n + 1) → Room table.new l n }
-    ensures tgids { tgids table.new.table ≡ tgids table.old.table }
+/// A tracee shows the group-stop by this signal, if one is in effect.
+fn stop_at(step: &mut Step, thread: &Thread, signal: Option<Signal>)
+    requires { 1 ≤ step.old.room }
+    ensures { Moves (at_stop signal (stop_with thread.now)) 1 step.old step.new }
 {
-    if ends {
-        change_group(table, tgid, &GroupChange::EndStop);
-        note_where(table, log, tells, tgid, &Status::Continued);
+    if let Some(signal) = signal {
+        stop_with(step, thread, signal);
     }
 }
 
-/// A SIGCONT continues the group.
-pub fn continue_all(table: &mut Table, log: &Log, tgid: u32)
-    requires { Room table.old log.now 1 }
-    ensures shows { (l : Log) (w : Work) → Shows table.old l w → Shows table.new l (continue_all tgid w) }
-    ensures room { (l : Log) (n : ℕ) → Room table.old l (n + 1) → Room table.new l n }
-    ensures tgids { tgids table.new.table ≡ tgids table.old.table }
+fn halt_traced(step: &mut Step, thread: &Thread)
+    requires { 1 ≤ step.old.room }
+    ensures { Moves (halt_traced thread.now) 1 step.old step.new }
 {
-    let ends = stop_now(table, tgid).is_some();
-    let tells = tells_starter(table, tgid);
-    continue_threads(table, tgid, ends);
-    end_stop_where(table, log, ends, tells, tgid);
+    let signal = step.stop_now(thread.group);
+    step.change_thread(thread.id, &Own::Join);
+    stop_at(step, thread, signal);
 }
 
-fn note_stop(table: &mut Table, log: &Log, tgid: u32, stop: Option<Signal>)
-    requires { Room table.old log.now 1 }
-    ensures shows { (l : Log) (w : Work) → Shows table.old l w → Shows table.new l (note_stop tgid stop w) }
-    ensures room { (l : Log) (n : ℕ) → Room table.old l (n + 1) → Room table.new l n }
-    ensures tgids { tgids table.new.table ≡ tgids table.old.table }
+fn halt_untraced(step: &mut Step, thread: &Thread)
+    ensures { Moves (halt_untraced thread.now) 0 step.old step.new }
 {
-    if let Some(signal) = stop {
-        let tells = is_untraced(table, tgid);
-        note_where(table, log, tells, tgid, &Status::Stopped(signal));
+    step.change_thread(thread.id, &Own::Join);
+    step.change_thread(thread.id, &Own::Stop);
+}
+
+fn halt_thread(step: &mut Step, thread: &Thread)
+    requires { 1 ≤ step.old.room }
+    ensures { Moves (halt thread.now) 1 step.old step.new }
+{
+    if thread.is_traced() {
+        halt_traced(step, thread);
+    } else {
+        halt_untraced(step, thread);
     }
 }
 
-fn fill_stop(table: &mut Table, log: &Log, tgid: u32)
-    requires { Room table.old log.now 1 }
-    ensures shows { (l : Log) (w : Work) → Shows table.old l w → Shows table.new l (fill_stop tgid w) }
-    ensures room { (l : Log) (n : ℕ) → Room table.old l (n + 1) → Room table.new l n }
-    ensures tgids { tgids table.new.table ≡ tgids table.old.table }
+fn halt_at(step: &mut Step, tid: u32)
+    requires { 1 ≤ step.old.room }
+    ensures { Moves (at tid halt) 1 step.old step.new }
 {
-    let stop = stop_now(table, tgid);
-    change_group(table, tgid, &GroupChange::Complete);
-    note_stop(table, log, tgid, stop);
-}
-
-fn settle_group(table: &mut Table, log: &Log, tgid: u32)
-    requires { Room table.old log.now 1 }
-    ensures shows { (l : Log) (w : Work) → Shows table.old l w → Shows table.new l (settle_group tgid w) }
-    ensures room { (l : Log) (n : ℕ) → Room table.old l (n + 1) → Room table.new l n }
-    ensures tgids { tgids table.new.table ≡ tgids table.old.table }
-{
-    if is_full(table, tgid) {
-        fill_stop(table, log, tgid);
+    if let Some(thread) = step.thread(tid) {
+        halt_thread(step, &thread);
     }
 }
 
-/// The last change of a step: a group-stop whose threads have all stopped is complete.
-pub fn settle(table: &mut Table, log: &Log)
-    requires { Room table.old log.now (length (tgids table.old.table)) }
-    ensures shows { (l : Log) (w : Work) → Shows table.old l w → Shows table.new l (settle w) }
+/// Whether a thread's stop for a group-stop is refused or due: ESRCH where there is no such thread, then NotDue where it
+/// has no stop mark, or neither runs nor listens.
+pub fn check_halt(table: &Table, tid: u32) -> Result<Checked, Refusal>
+    ensures { (actor : ℕ) → result ≡ check table.now.table actor (Halt tid) }
 {
-    let count = table.group_count();
-    for i in 0..count {
-        let tgid = table.tgid_at(i);
-        settle_group(table, log, tgid);
+    let Some(thread) = table.find(tid) else {
+        return Err(Refusal::Srch);
+    };
+    if thread.stop_mark && thread.life.serves_marks() {
+        Ok(Checked::Due(Choice::NONE))
+    } else {
+        Err(Refusal::NotDue)
     }
 }
 
-/// The end of a step: `settle`, and what the step made, with this reply.
-pub fn finish(table: &mut Table, log: Log, reply: &Reply) -> Made
-    requires { Room table.old log (length (tgids table.old.table)) }
-    ensures makes { (w : Work) → Shows table.old log w → Makes result table.new.table (record { reply = reply.now; work = settle w }) }
-    ensures ended { result.ended ≡ log.ended }
-    ensures taken_from { result.taken_from ≡ None }
+/// A thread's stop for a group-stop that is due: its mark goes, and it takes part. A thread that nobody traces is
+/// stopped, an attached tracee enters a stop by the signal, a seized one `PTRACE_EVENT_STOP`. Where memory is refused,
+/// or the numbers are used up, nothing has changed.
+pub fn halt(step: &mut Step, actor: u32, tid: u32) -> Result<Reply, AllocError>
+    requires due { check step.old.work.table actor (Halt tid) ≡ Ok (Due no_choice) }
+    ensures did { IfOk result (IsStepOf step.old.work.table (entry actor (Halt tid)) step.new) }
+    ensures err { OnErr result (step.new.work.table ≡ step.old.work.table) }
 {
-    settle(table, &log);
-    Made {
-        reply: *reply,
-        ended: log.ended,
-        dying: log.dying,
-        killed: log.killed,
-        taken_from: None,
+    step.begin(1)?;
+    halt_at(step, tid);
+    step.settle();
+    Ok(Reply::Done)
+}
+
+// The trap and the note mark
+
+fn trap_in_stop(step: &mut Step, thread: &Thread, signal: Option<Signal>)
+    requires { 1 ≤ step.old.room }
+    ensures { Moves (trap_at thread.now signal) 1 step.old step.new }
+{
+    match signal {
+        None => step.enter(thread.id, &Stop::Event(StopSig::Trap)),
+        Some(signal) => {
+            step.change_thread(thread.id, &Own::Join);
+            step.enter(thread.id, &Stop::Event(StopSig::of(signal)));
+        }
+    }
+}
+
+fn trap_thread(step: &mut Step, thread: &Thread)
+    requires { 1 ≤ step.old.room }
+    ensures { Moves (trap thread.now) 1 step.old step.new }
+{
+    let signal = step.stop_now(thread.group);
+    trap_in_stop(step, thread, signal);
+}
+
+fn trap_by_id(step: &mut Step, tid: u32)
+    requires { 1 ≤ step.old.room }
+    ensures { Moves (at tid trap) 1 step.old step.new }
+{
+    if let Some(thread) = step.thread(tid) {
+        trap_thread(step, &thread);
+    }
+}
+
+/// Whether a tracee's trap is refused or due: ESRCH where there is no such thread, then NotDue where it has neither the
+/// trap nor the note mark, or neither runs nor listens.
+pub fn check_trap(table: &Table, tid: u32) -> Result<Checked, Refusal>
+    ensures { (actor : ℕ) → result ≡ check table.now.table actor (Trap tid) }
+{
+    let Some(thread) = table.find(tid) else {
+        return Err(Refusal::Srch);
+    };
+    if (thread.trap_mark || thread.note_mark) && thread.life.serves_marks() {
+        Ok(Checked::Due(Choice::NONE))
+    } else {
+        Err(Refusal::NotDue)
+    }
+}
+
+/// A tracee's trap that is due: it enters `PTRACE_EVENT_STOP`, of the signal of the group-stop in effect, in which it
+/// then takes part, else of SIGTRAP. Where memory is refused, or the numbers are used up, nothing has changed.
+pub fn trap(step: &mut Step, actor: u32, tid: u32) -> Result<Reply, AllocError>
+    requires due { check step.old.work.table actor (Trap tid) ≡ Ok (Due no_choice) }
+    ensures did { IfOk result (IsStepOf step.old.work.table (entry actor (Trap tid)) step.new) }
+    ensures err { OnErr result (step.new.work.table ≡ step.old.work.table) }
+{
+    step.begin(1)?;
+    trap_by_id(step, tid);
+    step.settle();
+    Ok(Reply::Done)
+}
+
+// Threads that are traced while they are stopped
+
+fn show(step: &mut Step, thread: &Thread)
+    requires { 1 ≤ step.old.room }
+    ensures { Moves (show thread.now) 1 step.old step.new }
+{
+    let signal = step.stop_now(thread.group);
+    if let Some(thread) = step.thread(thread.id) {
+        stop_at(step, &thread, signal);
+    }
+}
+
+/// A stopped thread that is traced from now on is in the ptrace-stop of its kind.
+pub fn show_stop(step: &mut Step, thread: &Thread)
+    requires { 1 ≤ step.old.room }
+    ensures { Moves (show_stop thread.now) 1 step.old step.new }
+{
+    if thread.life.is_stopped() {
+        show(step, thread);
     }
 }

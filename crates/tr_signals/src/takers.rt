@@ -1,28 +1,25 @@
+//! Which thread of a group takes a pending signal, and what it does with it: signal(7).
+
 ghost use Rattle.std.specs.Prelude.{◌≡◌, ℕ, IfOk, OnErr, Ok};
 ghost use Rattle.std.specs.List.{find};
 ghost use Rattle.tr_model.specs.declared.checked.Checked.TheVariants.{Due};
 ghost use Rattle.tr_model.specs.declared.events.Event.TheVariants.{TakeAny};
-ghost use Rattle.tr_model.specs.Journals.{taken};
 ghost use Rattle.tr_model.specs.Preferred.{check, taking_by};
-ghost use Rattle.tr_model.specs.Steps.{after, takes_by};
+ghost use Rattle.tr_model.specs.Steps.{takes_by};
 ghost use Rattle.tr_model.specs.Tables.{members};
 ghost use Rattle.tr_model.specs.Takes.{can_take};
 ghost use Rattle.tr_table.specs.Rows.{RowsOf};
-ghost use Rattle.tr_signals.specs.Makes.{Makes};
-ghost use Rattle.tr_signals.specs.Takes.{queue_of};
+ghost use Rattle.tr_steps.specs.UnderWay.{IsStepOf};
 
-use crate::log::{Made, NO_CHOICE};
-use crate::masks::best_for;
-use crate::takes::take_due;
-use std::alloc::{AllocError, Global};
+use crate::takes::{best_for, take_due};
+use std::alloc::AllocError;
 use tr_group::Members;
 use tr_lanes::first_ready;
 use tr_model::{Checked, Choice, Refusal, Reply};
 use tr_pending::Instance;
+use tr_steps::Step;
 use tr_table::{Rows, Table};
 use tr_tracee::Thread;
-
-// Which thread of a group takes a pending signal, and what it does with it: signal(7).
 
 /// The first thread of the group, in table order, that can take something.
 fn first_taker(table: &Table, tgid: u32, rows: &Rows) -> Option<Thread>
@@ -40,9 +37,9 @@ fn taking_by(tid: u32, best: &Option<Instance>) -> Choice
         Some(instance) => Choice {
             thread: Some(tid),
             instance: Some(instance.n),
-            ..NO_CHOICE
+            ..Choice::NONE
         },
-        None => NO_CHOICE,
+        None => Choice::NONE,
     }
 }
 
@@ -65,19 +62,18 @@ pub fn check_take_any(table: &Table, tgid: u32) -> Result<Checked, Refusal>
 /// A take by any thread of a group that is due, by this thread, of the pending instance with this number: as `take` by
 /// that thread. Where memory is refused, or the numbers are used up, nothing has changed.
 pub fn take_any(
-    table: &mut Table,
-    alloc: Global,
+    step: &mut Step,
     actor: u32,
     tgid: u32,
     tid: u32,
     n: u64,
-) -> Result<Made, AllocError>
-    requires due { check table.old.table actor (TakeAny tgid) ≡ Ok (Due (takes_by tid n)) }
-    ensures did { IfOk result (λ m. Makes m table.new.table (after table.old.table (record { actor = actor; event = TakeAny tgid; choice = takes_by tid n }))) }
-    ensures taken_from { IfOk result (λ m. m.taken_from ≡ queue_of (taken table.old.table (record { actor = actor; event = TakeAny tgid; choice = takes_by tid n }))) }
-    ensures err { OnErr result (table.new.table ≡ table.old.table) }
+) -> Result<Reply, AllocError>
+    requires due { check step.old.work.table actor (TakeAny tgid) ≡ Ok (Due (takes_by tid n)) }
+    ensures did { IfOk result (IsStepOf step.old.work.table (record { actor = actor; event = TakeAny tgid; choice = takes_by tid n }) step.new) }
+    ensures err { OnErr result (step.new.work.table ≡ step.old.work.table) }
 {
+    let table = step.table();
     let thread = *table.find(tid).unwrap();
     let instance = table.instance(n).unwrap();
-    take_due(table, alloc, &thread, &instance)
+    take_due(step, &thread, &instance)
 }

@@ -1,40 +1,51 @@
-ghost use Rattle.std.specs.Prelude.{◌≡◌, ◌+◌, ℕ, IfOk, OnErr, Ok, Some, false};
-ghost use Rattle.tr_pending.specs.declared.instance.Instance.{Instance};
-ghost use Rattle.tr_tracee.specs.declared.thread.Thread.{Thread};
+//! Which pending signal a thread takes, and what it does with it: signal(7), and "Signal-delivery-stop" of ptrace(2).
+
+ghost use Rattle.std.specs.Prelude.{◌≡◌, ◌≤◌, ℕ, IfOk, OnErr, Ok, Some, false};
+ghost use Rattle.tr_pending.specs.Waiting.{best_of};
 ghost use Rattle.tr_model.specs.declared.checked.Checked.TheVariants.{Due};
 ghost use Rattle.tr_model.specs.declared.events.Event.TheVariants.{Take};
-ghost use Rattle.tr_model.specs.Journals.{taken};
-ghost use Rattle.tr_model.specs.Moves.{Work};
-ghost use Rattle.tr_model.specs.Preferred.{check};
-ghost use Rattle.tr_model.specs.Steps.{after, takes_instance};
-ghost use Rattle.tr_model.specs.Takes.{act, deliver, take, taken_from, took};
-ghost use Rattle.tr_table.specs.Changes.{tgids};
-ghost use Rattle.tr_signals.specs.Shows.{Room, Shows};
-ghost use Rattle.tr_signals.specs.Makes.{Makes};
-ghost use Rattle.tr_signals.specs.Takes.{Takes, queue_of, take_outcome};
-ghost use Rattle.tr_pending.specs.Waiting.{best_of};
-ghost use Rattle.tr_model.specs.Tables.{queue};
 ghost use Rattle.tr_model.specs.declared.rows.Target.TheVariants as target;
+ghost use Rattle.tr_model.specs.Preferred.{best_for, check};
+ghost use Rattle.tr_model.specs.Steps.{takes_instance};
+ghost use Rattle.tr_model.specs.Tables.{queue};
+ghost use Rattle.tr_model.specs.Takes.{act, can_take, deliver, take, taken_from, took};
+ghost use Rattle.tr_steps.specs.UnderWay.{ComesTo, IsStepOf, Moves};
+ghost use Rattle.tr_signals.specs.Private.{Takes, take_outcome};
 
 use crate::acts::{act, did_of};
-use crate::log::{Made, NO_CHOICE, reserve};
-use crate::masks::best_for;
-use crate::moves::{deliver, hold};
-use crate::stops::settle;
-use std::alloc::{AllocError, Global};
+use std::alloc::AllocError;
 use tr_model::{Checked, Choice, Did, Refusal, Reply, Target};
 use tr_pending::Instance;
-use tr_table::{Log, Table};
+use tr_steps::Step;
+use tr_table::Table;
 use tr_tracee::Thread;
 
-// Which pending signal a thread takes, and what it does with it: signal(7), and "Signal-delivery-stop" of ptrace(2).
+/// What a thread takes next: from its own queue before the shared one, the first of the least number.
+pub(crate) fn best_for(table: &Table, thread: &Thread) -> Option<Instance>
+    ensures { result ≡ best_for table.now.table thread.now }
+{
+    if !thread.is_ready_to_take() {
+        return None;
+    }
+    match table.best(Target::Thread(thread.id), thread.mask) {
+        Some(instance) => Some(instance),
+        None => table.best(Target::Group(thread.group), thread.mask),
+    }
+}
+
+#[tactic(auto, using(tr_model::proofs::Takable::can_take_best))]
+pub(crate) fn can_take(table: &Table, thread: &Thread) -> bool
+    ensures { result ≡ can_take table.now.table thread.now }
+{
+    best_for(table, thread).is_some()
+}
 
 fn taking(n: u64) -> Choice
     ensures { result ≡ takes_instance n }
 {
     Choice {
         instance: Some(n),
-        ..NO_CHOICE
+        ..Choice::NONE
     }
 }
 
@@ -70,28 +81,24 @@ fn did(table: &Table, thread: &Thread, instance: &Instance) -> Did
     }
 }
 
-fn deliver_to(table: &mut Table, log: &mut Log, thread: &Thread, instance: &Instance, did: Did)
-    requires { Room table.old log.old 2 }
-    ensures shows { (w : Work) → Shows table.old log.old w → Shows table.new log.new (act thread.now instance.now.sig false did (deliver instance.now.n w)) }
-    ensures room { (n : ℕ) → Room table.old log.old ((n + 1) + 1) → Room table.new log.new n }
-    ensures tgids { tgids table.new.table ≡ tgids table.old.table }
+fn deliver_to(step: &mut Step, thread: &Thread, instance: &Instance, did: Did)
+    requires { 2 ≤ step.old.room }
+    ensures { Moves (λ w. act thread.now instance.now.sig false did (deliver instance.now.n w)) 2 step.old step.new }
 {
-    deliver(table, log, instance.n);
-    act(table, log, thread, instance.sig, false, did);
+    step.deliver(instance.n);
+    act(step, thread, instance.sig, false, did);
 }
 
-fn take_instance(table: &mut Table, log: &mut Log, thread: &Thread, instance: &Instance, did: Did)
-    requires room { Room table.old log.old 2 }
-    requires did { did ≡ took table.old.table thread.now instance.now }
-    requires takes { Takes table.old.table thread.now instance.now }
-    ensures shows { (w : Work) → Shows table.old log.old w → Shows table.new log.new (take thread.now instance.now w) }
-    ensures room { (n : ℕ) → Room table.old log.old ((n + 1) + 1) → Room table.new log.new n }
-    ensures tgids { tgids table.new.table ≡ tgids table.old.table }
+fn take_instance(step: &mut Step, thread: &Thread, instance: &Instance, did: Did)
+    requires room { 2 ≤ step.old.room }
+    requires did { did ≡ took step.old.work.table thread.now instance.now }
+    requires takes { Takes step.old.work.table thread.now instance.now }
+    ensures { Moves (take thread.now instance.now) 2 step.old step.new }
 {
     if thread.is_traced() {
-        hold(table, log, thread, instance);
+        step.hold(thread, instance);
     } else {
-        deliver_to(table, log, thread, instance, did);
+        deliver_to(step, thread, instance, did);
     }
 }
 
@@ -99,8 +106,9 @@ fn take_instance(table: &mut Table, log: &mut Log, thread: &Thread, instance: &I
 fn from_queue(table: &Table, thread: &Thread) -> Target
     ensures { result ≡ taken_from (best_of thread.now.mask (queue table.now.table (target.Thread thread.now.id))) thread.now }
 {
-    match table.best(Target::Thread(thread.id), thread.mask) {
-        Some(_) => Target::Thread(thread.id),
+    let own = Target::Thread(thread.id);
+    match table.best(own, thread.mask) {
+        Some(_) => own,
         None => Target::Group(thread.group),
     }
 }
@@ -108,49 +116,36 @@ fn from_queue(table: &Table, thread: &Thread) -> Target
 /// A take that is due: the thread takes the instance. Where memory is refused, or the numbers are used up, nothing has
 /// changed.
 pub(crate) fn take_due(
-    table: &mut Table,
-    alloc: Global,
+    step: &mut Step,
     thread: &Thread,
     instance: &Instance,
-) -> Result<Made, AllocError>
-    requires takes { Takes table.old.table thread.now instance.now }
-    ensures did { IfOk result (λ m. Makes m table.new.table (take_outcome table.old.table thread.now instance.now)) }
-    ensures taken_from { IfOk result (λ m. m.taken_from ≡ Some (taken_from (best_of thread.now.mask (queue table.old.table (target.Thread thread.now.id))) thread.now)) }
-    ensures err { OnErr result (table.new.table ≡ table.old.table) }
+) -> Result<Reply, AllocError>
+    requires takes { Takes step.old.work.table thread.now instance.now }
+    ensures did { IfOk result (ComesTo (take_outcome step.old.work.table thread.now instance.now) (Some (taken_from (best_of thread.now.mask (queue step.old.work.table (target.Thread thread.now.id))) thread.now)) step.new) }
+    ensures err { OnErr result (step.new.work.table ≡ step.old.work.table) }
 {
-    let from = from_queue(table, thread);
-    let did = did(table, thread, instance);
-    let mut log = reserve(table, alloc, 2)?;
-    take_instance(table, &mut log, thread, instance, did);
-    settle(table, &log);
-    Ok(Made {
-        reply: Reply::Took {
-            tid: thread.id,
-            inst: *instance,
-            did,
-        },
-        ended: log.ended,
-        dying: log.dying,
-        killed: log.killed,
-        taken_from: Some(from),
+    let queue = from_queue(step.table(), thread);
+    let did = did(step.table(), thread, instance);
+    step.begin(2)?;
+    step.take_from(queue);
+    take_instance(step, thread, instance, did);
+    step.settle();
+    Ok(Reply::Took {
+        tid: thread.id,
+        inst: *instance,
+        did,
     })
 }
 
 /// A take that is due, of the pending instance with this number: a tracee enters a signal-delivery-stop that holds it,
 /// another thread acts on it. Where memory is refused, or the numbers are used up, nothing has changed.
-pub fn take(
-    table: &mut Table,
-    alloc: Global,
-    actor: u32,
-    tid: u32,
-    n: u64,
-) -> Result<Made, AllocError>
-    requires due { check table.old.table actor (Take tid) ≡ Ok (Due (takes_instance n)) }
-    ensures did { IfOk result (λ m. Makes m table.new.table (after table.old.table (record { actor = actor; event = Take tid; choice = takes_instance n }))) }
-    ensures taken_from { IfOk result (λ m. m.taken_from ≡ queue_of (taken table.old.table (record { actor = actor; event = Take tid; choice = takes_instance n }))) }
-    ensures err { OnErr result (table.new.table ≡ table.old.table) }
+pub fn take(step: &mut Step, actor: u32, tid: u32, n: u64) -> Result<Reply, AllocError>
+    requires due { check step.old.work.table actor (Take tid) ≡ Ok (Due (takes_instance n)) }
+    ensures did { IfOk result (IsStepOf step.old.work.table (record { actor = actor; event = Take tid; choice = takes_instance n }) step.new) }
+    ensures err { OnErr result (step.new.work.table ≡ step.old.work.table) }
 {
+    let table = step.table();
     let thread = *table.find(tid).unwrap();
     let instance = table.instance(n).unwrap();
-    take_due(table, alloc, &thread, &instance)
+    take_due(step, &thread, &instance)
 }

@@ -5,30 +5,29 @@ use Rattle.tr_model.specs.declared.events.Choice.{Choice}
 use Rattle.tr_model.specs.declared.events.Event.{Event}
 use Rattle.tr_model.specs.declared.events.Event.TheVariants.{CloneThread, StarterWait, Take, TakeAny, Tgkill, Wait}
 use Rattle.tr_model.specs.Preferred.{check}
-use Rattle.tr_model.specs.Steps.{after}
-use Rattle.tr_signals.specs.Makes.{Makes}
+use Rattle.tr_steps.specs.UnderWay.{IsStepOf}
 use Rattle.tr_kernel.proofs.Checks.{clone_numbered, dues, same_id, same_report, same_take_by, starter_numbered, take_any_numbered, take_numbered, wait_numbered}
 use Rattle.tr_kernel.proofs.events.change.Goals as goal
 
 pub unwrap-requires : goal.unwrap-requires
 unwrap-requires c =
-    let T = c.args.table.now.table in
+    let T = c.args.step.now.work.table in
     let h = subst (λ (e : Event). check T c.args.actor e ≡ Ok (Due c.args.choice.now)) c.in-Take.is c.requires in
     let d = dues T c.args.actor (Take c.in-Take.tid) c.args.choice.now h in
     let n = take_numbered T c.args.actor c.in-Take.tid c.args.choice.now d.not_quiet d.preferred in
     rw (n.1) refl
 
-pub returns-in-Tgkill-clause-made : goal.returns-in-Tgkill-clause-made
-returns-in-Tgkill-clause-made c =
+pub returns-in-Tgkill-clause-did : goal.returns-in-Tgkill-clause-did
+returns-in-Tgkill-clause-did c =
     let e : Event = Tgkill c.in-Tgkill.tgid c.in-Tgkill.tid c.in-Tgkill.sig in
-    let h = subst (λ (x : Event). check c.args.table.now.table c.args.actor x ≡ Ok (Due c.args.choice.now)) c.in-Tgkill.is c.requires in
-    let d = dues c.args.table.now.table c.args.actor e c.args.choice.now h in
-    let made : Event → Choice → Type 0 = λ x y. IfOk c.tgkill.result (λ m. Makes m c.tgkill.new.table.table (after c.args.table.now.table (record { actor = c.args.actor; event = x; choice = y }))) in
+    let h = subst (λ (x : Event). check c.args.step.now.work.table c.args.actor x ≡ Ok (Due c.args.choice.now)) c.in-Tgkill.is c.requires in
+    let d = dues c.args.step.now.work.table c.args.actor e c.args.choice.now h in
+    let made : Event → Choice → Type 0 = λ x y. IfOk c.tgkill.result (IsStepOf c.args.step.now.work.table (record { actor = c.args.actor; event = x; choice = y }) c.tgkill.new.step) in
     subst (λ x. made x c.args.choice.now) (sym c.in-Tgkill.is) (subst (made e) (sym d.preferred) c.tgkill.ensures.did)
 
 pub unwrap-requires-in-TakeAny : goal.unwrap-requires-in-TakeAny
 unwrap-requires-in-TakeAny c =
-    let T = c.args.table.now.table in
+    let T = c.args.step.now.work.table in
     let h = subst (λ (e : Event). check T c.args.actor e ≡ Ok (Due c.args.choice.now)) c.in-TakeAny.is c.requires in
     let d = dues T c.args.actor (TakeAny c.in-TakeAny.tgid) c.args.choice.now h in
     let n = take_any_numbered T c.args.actor c.in-TakeAny.tgid c.args.choice.now d.not_quiet d.preferred in
@@ -36,7 +35,7 @@ unwrap-requires-in-TakeAny c =
 
 pub unwrap-requires-in-TakeAny-2 : goal.unwrap-requires-in-TakeAny-2
 unwrap-requires-in-TakeAny-2 c =
-    let T = c.args.table.now.table in
+    let T = c.args.step.now.work.table in
     let h = subst (λ (e : Event). check T c.args.actor e ≡ Ok (Due c.args.choice.now)) c.in-TakeAny.is c.requires in
     let d = dues T c.args.actor (TakeAny c.in-TakeAny.tgid) c.args.choice.now h in
     let n = take_any_numbered T c.args.actor c.in-TakeAny.tgid c.args.choice.now d.not_quiet d.preferred in
@@ -44,27 +43,27 @@ unwrap-requires-in-TakeAny-2 c =
 
 pub take_any-requires : goal.take_any-requires
 take_any-requires c =
-    let T = c.args.table.now.table in
+    let T = c.args.step.now.work.table in
     let h = subst (λ (e : Event). check T c.args.actor e ≡ Ok (Due c.args.choice.now)) c.in-TakeAny.is c.requires in
     let d = dues T c.args.actor (TakeAny c.in-TakeAny.tgid) c.args.choice.now h in
     let n = take_any_numbered T c.args.actor c.in-TakeAny.tgid c.args.choice.now d.not_quiet d.preferred in
     let k = same_take_by c.args.choice.now n.0 n.1 c.unwrap-in-TakeAny.result c.unwrap-in-TakeAny-2.result n.2 c.unwrap-in-TakeAny.ensures c.unwrap-in-TakeAny-2.ensures in
     record { due = subst (λ (y : Choice). check T c.args.actor (TakeAny c.in-TakeAny.tgid) ≡ Ok (Due y)) k h }
 
-pub returns-in-TakeAny-clause-made : goal.returns-in-TakeAny-clause-made
-returns-in-TakeAny-clause-made c =
-    let T = c.args.table.now.table in
+pub returns-in-TakeAny-clause-did : goal.returns-in-TakeAny-clause-did
+returns-in-TakeAny-clause-did c =
+    let T = c.args.step.now.work.table in
     let h = subst (λ (e : Event). check T c.args.actor e ≡ Ok (Due c.args.choice.now)) c.in-TakeAny.is c.requires in
     let d = dues T c.args.actor (TakeAny c.in-TakeAny.tgid) c.args.choice.now h in
     let n = take_any_numbered T c.args.actor c.in-TakeAny.tgid c.args.choice.now d.not_quiet d.preferred in
     let k = same_take_by c.args.choice.now n.0 n.1 c.unwrap-in-TakeAny.result c.unwrap-in-TakeAny-2.result n.2 c.unwrap-in-TakeAny.ensures c.unwrap-in-TakeAny-2.ensures in
     let e : Event = TakeAny c.in-TakeAny.tgid in
-    let made : Event → Choice → Type 0 = λ x y. IfOk c.take_any.result (λ m. Makes m c.take_any.new.table.table (after T (record { actor = c.args.actor; event = x; choice = y }))) in
+    let made : Event → Choice → Type 0 = λ x y. IfOk c.take_any.result (IsStepOf T (record { actor = c.args.actor; event = x; choice = y }) c.take_any.new.step) in
     subst (λ x. made x c.args.choice.now) (sym c.in-TakeAny.is) (subst (made e) (sym k) c.take_any.ensures.did)
 
 pub unwrap-requires-in-CloneThread : goal.unwrap-requires-in-CloneThread
 unwrap-requires-in-CloneThread c =
-    let T = c.args.table.now.table in
+    let T = c.args.step.now.work.table in
     let h = subst (λ (e : Event). check T c.args.actor e ≡ Ok (Due c.args.choice.now)) c.in-CloneThread.is c.requires in
     let d = dues T c.args.actor (CloneThread c.in-CloneThread.tid) c.args.choice.now h in
     let n = clone_numbered T c.args.actor c.in-CloneThread.tid c.args.choice.now d.no_cause d.preferred in
@@ -72,27 +71,27 @@ unwrap-requires-in-CloneThread c =
 
 pub clone_thread-requires : goal.clone_thread-requires
 clone_thread-requires c =
-    let T = c.args.table.now.table in
+    let T = c.args.step.now.work.table in
     let h = subst (λ (e : Event). check T c.args.actor e ≡ Ok (Due c.args.choice.now)) c.in-CloneThread.is c.requires in
     let d = dues T c.args.actor (CloneThread c.in-CloneThread.tid) c.args.choice.now h in
     let n = clone_numbered T c.args.actor c.in-CloneThread.tid c.args.choice.now d.no_cause d.preferred in
     let k = same_id c.args.choice.now n.0 c.unwrap-in-CloneThread.result n.1 c.unwrap-in-CloneThread.ensures in
     record { due = subst (λ (y : Choice). check T c.args.actor (CloneThread c.in-CloneThread.tid) ≡ Ok (Due y)) k h }
 
-pub returns-in-CloneThread-clause-made : goal.returns-in-CloneThread-clause-made
-returns-in-CloneThread-clause-made c =
-    let T = c.args.table.now.table in
+pub returns-in-CloneThread-clause-did : goal.returns-in-CloneThread-clause-did
+returns-in-CloneThread-clause-did c =
+    let T = c.args.step.now.work.table in
     let h = subst (λ (e : Event). check T c.args.actor e ≡ Ok (Due c.args.choice.now)) c.in-CloneThread.is c.requires in
     let d = dues T c.args.actor (CloneThread c.in-CloneThread.tid) c.args.choice.now h in
     let n = clone_numbered T c.args.actor c.in-CloneThread.tid c.args.choice.now d.no_cause d.preferred in
     let k = same_id c.args.choice.now n.0 c.unwrap-in-CloneThread.result n.1 c.unwrap-in-CloneThread.ensures in
     let e : Event = CloneThread c.in-CloneThread.tid in
-    let made : Event → Choice → Type 0 = λ x y. IfOk c.clone_thread.result (λ m. Makes m c.clone_thread.new.table.table (after T (record { actor = c.args.actor; event = x; choice = y }))) in
+    let made : Event → Choice → Type 0 = λ x y. IfOk c.clone_thread.result (IsStepOf T (record { actor = c.args.actor; event = x; choice = y }) c.clone_thread.new.step) in
     subst (λ x. made x c.args.choice.now) (sym c.in-CloneThread.is) (subst (made e) (sym k) c.clone_thread.ensures.did)
 
 pub unwrap-requires-in-Wait : goal.unwrap-requires-in-Wait
 unwrap-requires-in-Wait c =
-    let T = c.args.table.now.table in
+    let T = c.args.step.now.work.table in
     let h = subst (λ (e : Event). check T c.args.actor e ≡ Ok (Due c.args.choice.now)) c.in-Wait.is c.requires in
     let d = dues T c.args.actor (Wait c.in-Wait.which) c.args.choice.now h in
     let n = wait_numbered T c.args.actor c.in-Wait.which c.args.choice.now d.not_quiet d.preferred in
@@ -100,27 +99,27 @@ unwrap-requires-in-Wait c =
 
 pub wait-requires : goal.wait-requires
 wait-requires c =
-    let T = c.args.table.now.table in
+    let T = c.args.step.now.work.table in
     let h = subst (λ (e : Event). check T c.args.actor e ≡ Ok (Due c.args.choice.now)) c.in-Wait.is c.requires in
     let d = dues T c.args.actor (Wait c.in-Wait.which) c.args.choice.now h in
     let n = wait_numbered T c.args.actor c.in-Wait.which c.args.choice.now d.not_quiet d.preferred in
     let k = same_report c.args.choice.now n.0 c.unwrap-in-Wait.result n.1 c.unwrap-in-Wait.ensures in
     record { due = subst (λ (y : Choice). check T c.args.actor (Wait c.in-Wait.which) ≡ Ok (Due y)) k h }
 
-pub returns-in-Wait-clause-made : goal.returns-in-Wait-clause-made
-returns-in-Wait-clause-made c =
-    let T = c.args.table.now.table in
+pub returns-in-Wait-clause-did : goal.returns-in-Wait-clause-did
+returns-in-Wait-clause-did c =
+    let T = c.args.step.now.work.table in
     let h = subst (λ (e : Event). check T c.args.actor e ≡ Ok (Due c.args.choice.now)) c.in-Wait.is c.requires in
     let d = dues T c.args.actor (Wait c.in-Wait.which) c.args.choice.now h in
     let n = wait_numbered T c.args.actor c.in-Wait.which c.args.choice.now d.not_quiet d.preferred in
     let k = same_report c.args.choice.now n.0 c.unwrap-in-Wait.result n.1 c.unwrap-in-Wait.ensures in
     let e : Event = Wait c.in-Wait.which in
-    let made : Event → Choice → Type 0 = λ x y. IfOk c.wait.result (λ m. Makes m c.wait.new.table.table (after T (record { actor = c.args.actor; event = x; choice = y }))) in
+    let made : Event → Choice → Type 0 = λ x y. IfOk c.wait.result (IsStepOf T (record { actor = c.args.actor; event = x; choice = y }) c.wait.new.step) in
     subst (λ x. made x c.args.choice.now) (sym c.in-Wait.is) (subst (made e) (sym k) c.wait.ensures.did)
 
 pub unwrap-requires-in-StarterWait : goal.unwrap-requires-in-StarterWait
 unwrap-requires-in-StarterWait c =
-    let T = c.args.table.now.table in
+    let T = c.args.step.now.work.table in
     let h = subst (λ (e : Event). check T c.args.actor e ≡ Ok (Due c.args.choice.now)) c.in-StarterWait.is c.requires in
     let d = dues T c.args.actor (StarterWait c.in-StarterWait.which c.in-StarterWait.flags) c.args.choice.now h in
     let n = starter_numbered T c.args.actor c.in-StarterWait.which c.in-StarterWait.flags c.args.choice.now d.not_quiet d.preferred in
@@ -128,20 +127,20 @@ unwrap-requires-in-StarterWait c =
 
 pub starter_wait-requires : goal.starter_wait-requires
 starter_wait-requires c =
-    let T = c.args.table.now.table in
+    let T = c.args.step.now.work.table in
     let h = subst (λ (e : Event). check T c.args.actor e ≡ Ok (Due c.args.choice.now)) c.in-StarterWait.is c.requires in
     let d = dues T c.args.actor (StarterWait c.in-StarterWait.which c.in-StarterWait.flags) c.args.choice.now h in
     let n = starter_numbered T c.args.actor c.in-StarterWait.which c.in-StarterWait.flags c.args.choice.now d.not_quiet d.preferred in
     let k = same_report c.args.choice.now n.0 c.unwrap-in-StarterWait.result n.1 c.unwrap-in-StarterWait.ensures in
     record { due = subst (λ (y : Choice). check T c.args.actor (StarterWait c.in-StarterWait.which c.in-StarterWait.flags) ≡ Ok (Due y)) k h }
 
-pub returns-in-StarterWait-clause-made : goal.returns-in-StarterWait-clause-made
-returns-in-StarterWait-clause-made c =
-    let T = c.args.table.now.table in
+pub returns-in-StarterWait-clause-did : goal.returns-in-StarterWait-clause-did
+returns-in-StarterWait-clause-did c =
+    let T = c.args.step.now.work.table in
     let h = subst (λ (e : Event). check T c.args.actor e ≡ Ok (Due c.args.choice.now)) c.in-StarterWait.is c.requires in
     let d = dues T c.args.actor (StarterWait c.in-StarterWait.which c.in-StarterWait.flags) c.args.choice.now h in
     let n = starter_numbered T c.args.actor c.in-StarterWait.which c.in-StarterWait.flags c.args.choice.now d.not_quiet d.preferred in
     let k = same_report c.args.choice.now n.0 c.unwrap-in-StarterWait.result n.1 c.unwrap-in-StarterWait.ensures in
     let e : Event = StarterWait c.in-StarterWait.which c.in-StarterWait.flags in
-    let made : Event → Choice → Type 0 = λ x y. IfOk c.starter_wait.result (λ m. Makes m c.starter_wait.new.table.table (after T (record { actor = c.args.actor; event = x; choice = y }))) in
+    let made : Event → Choice → Type 0 = λ x y. IfOk c.starter_wait.result (IsStepOf T (record { actor = c.args.actor; event = x; choice = y }) c.starter_wait.new.step) in
     subst (λ x. made x c.args.choice.now) (sym c.in-StarterWait.is) (subst (made e) (sym k) c.starter_wait.ensures.did)

@@ -1,43 +1,43 @@
-use Rattle.std.proofs.Common.{◌≡◌, ◌+◌, ◌*◌, ◌<◌, ◌∙◌, ap, arith, drop, length, take, take_all}
+use Rattle.std.proofs.Common.{◌≡◌, ◌<◌, ◌∙◌, ap, arith, length, take, take_all}
 use Rattle.tr_model.specs.Moves.{at}
 use Rattle.tr_model.specs.Requests.{lose_tracer}
-use Rattle.tr_signals.proofs.Rooms.{each_more, room_fits}
-use Rattle.tr_requests.proofs.Leaving.{left_one}
+use Rattle.tr_steps.proofs.Groups.{each_more}
 use Rattle.tr_requests.proofs.tracers.leave_each.Goals as goal
 
 pub leave_at-requires : goal.leave_at-requires
 leave_at-requires c =
-    let xs = c.args.ids.now in
-    let i = c.loop-i.i in
-    let h : i < length xs = let x = c.loop-i-test.true in omega arith in
-    let e = left_one xs i h in
-    let z : 3 * length xs + 0 ≡ 3 * length xs = omega arith in
     let r = c.requires in
-    room_fits _ _ 3 _ (omega (arith, e)) (c.loop-i.invariant.1 0 (rw z r))
+    let v = c.loop-i.invariant.0.room in
+    let t = c.loop-i-test.true in
+    omega arith
 
 pub loop-i-preserved : goal.loop-i-preserved
 loop-i-preserved c =
     let xs = c.args.ids.now in
     let i = c.loop-i.i in
-    let v = c.loop-i.invariant in
-    let h : i < length xs = let x = c.loop-i-test.true in omega arith in (
-      (λ w s. let b = c.leave_at.ensures.shows _ (v.0 w s) in rw (each_more xs i (λ id. at id (lose_tracer c.args.actor)) w h) b),
-      (λ n r.
-          let k : 3 * length (drop i xs) + n ≡ (((3 * length (drop (i + 1) xs) + n) + 1) + 1) + 1 = let e = left_one xs i h in omega (arith, e) in
-          let o = v.1 n r in
-          c.leave_at.ensures.room _ (rw k at o)),
-      (let a = c.leave_at.ensures.fewer in let b = v.2 in omega arith),
-      (omega (arith, h)),
+    let v = c.loop-i.invariant.0 in
+    let a = c.leave_at.ensures in
+    let h : i < length xs = let x = c.loop-i-test.true in omega arith in
+    let w = a.work ∙ ap (at _ (lose_tracer c.args.actor)) v.work in (
+      record {
+        work = rw (each_more xs i (λ id. at id (lose_tracer c.args.actor)) c.args.step.now.work h) w;
+        room = (let x = a.room in let y = v.room in omega arith);
+        groups = (let x = a.groups in let y = v.groups in omega arith);
+        taken_from = a.taken_from ∙ v.taken_from;
+      },
+      omega (arith, h),
     )
 
-pub returns-clause-shows : goal.returns-clause-shows
-returns-clause-shows c w s =
+pub returns : goal.returns
+returns c =
     let xs = c.args.ids.now in
-    let v = c.loop-i.invariant in
-    let p : c.loop-i.i ≡ length xs = let x = v.3 in let y = c.loop-i-test.false in omega arith in
+    let v = c.loop-i.invariant.0 in
+    let p : c.loop-i.i ≡ length xs = let x = c.loop-i.invariant.1 in let y = c.loop-i-test.false in omega arith in
     let q : take c.loop-i.i xs ≡ xs = ap (λ k. take k xs) p ∙ take_all (length xs) xs (omega arith) in
-    let b = v.0 w s in
-    rw q at b
-
-pub returns-clause-room : goal.returns-clause-room
-returns-clause-room c n r = let o = c.loop-i.invariant.1 n r in room_fits _ _ n _ (omega arith) o
+    let w = v.work in
+    record {
+      work = (rw q at w);
+      room = (let y = v.room in omega (arith, p));
+      groups = v.groups;
+      taken_from = v.taken_from;
+    }

@@ -1,13 +1,8 @@
-use Rattle.std.proofs.Common.{ℕ, ◌+◌, ◌*◌, ◌≤◌, drop, length, take}
-use Rattle.tr_model.specs.Moves.{Work, at, each}
+use Rattle.std.proofs.Common.{◌*◌, ◌≤◌, length, take}
+use Rattle.tr_model.specs.Moves.{at, each}
 use Rattle.tr_model.specs.Requests.{lose_tracer}
-use Rattle.tr_table.specs.Changes.{tgids}
-use Rattle.tr_signals.specs.Shows.{Room, Shows}
+use Rattle.tr_steps.specs.UnderWay.{Moves}
 use Rattle.tr_requests.proofs.tracers.leave_each.Given as goal
 
 abbrev pub invariant-loop-i : goal.invariant-loop-i
-invariant-loop-i l =
-    ((w : Work) → Shows l.fn.table l.fn.log w → Shows l.table l.log (each (take l.i l.ids) (λ id. at id (lose_tracer l.actor)) w))
-    × ((n : ℕ) → Room l.fn.table l.fn.log (3 * length l.ids + n) → Room l.table l.log (3 * length (drop l.i l.ids) + n))
-    × (length (tgids l.table.table) ≤ length (tgids l.fn.table.table))
-    × (l.i ≤ length l.ids)
+invariant-loop-i l = Moves (each (take l.i l.ids) (λ id. at id (lose_tracer l.actor))) (3 * l.i) l.fn.step l.step × (l.i ≤ length l.ids)

@@ -1,6 +1,7 @@
 use Rattle.std.proofs.Common.{◌≡◌, drop, flat_map}
 use Rattle.tr_model.specs.Waits.{report_number}
-use Rattle.tr_requests.specs.Waits.{asked_among, first_number}
+use Rattle.tr_requests.specs.Private.{first_number}
+use Rattle.tr_requests.specs.Waits.{asked_among}
 use Rattle.tr_requests.proofs.waits.first_ready.Given as goal
 
 abbrev pub invariant-loop-thread : goal.invariant-loop-thread

@@ -10,10 +10,10 @@ use Rattle.tr_kernel.proofs.kernels.Kernel.totals.Goals as goal
 
 pub returns-clause-totals : goal.returns-clause-totals
 returns-clause-totals c =
-    c.tally.ensures ∙ (ap₂ tally c.deref.ensures.value c.accepted.ensures ∙ (tally_is _ c.self.invariant.0 ∙ ap (λ (k : State). totals (table_of k.start) k.journal k.table) c.self.view_is))
+    c.tally.ensures ∙ (ap₂ tally c.deref.ensures.value (c.accepted.ensures ∙ ap (λ T. T.accepted) c.table.ensures) ∙ (tally_is _ c.self.invariant.0 ∙ ap (λ (k : State). totals (table_of k.start) k.journal k.table) c.self.view_is))
 
 pub returns-clause-sum : goal.returns-clause-sum
 returns-clause-sum c =
     subst (λ (t : Totals). t.pending + t.merged + t.delivered + t.suppressed + t.flushed ≡ t.accepted)
-    (sym (c.tally.ensures ∙ (ap₂ tally c.deref.ensures.value c.accepted.ensures ∙ tally_is _ c.self.invariant.0)))
-    (fates_sum (table_of c.self.inside.start) c.self.inside.table.table c.self.inside.journal.items)
+    (sym (c.tally.ensures ∙ (ap₂ tally c.deref.ensures.value (c.accepted.ensures ∙ ap (λ T. T.accepted) c.table.ensures) ∙ tally_is _ c.self.invariant.0)))
+    (fates_sum (table_of c.self.inside.start) c.self.inside.step.work.table c.self.inside.journal.items)

@@ -1,4 +1,4 @@
-use Rattle.std.proofs.Common.{rules, arith, refl}
+use Rattle.std.proofs.Common.{rules, refl}
 use Rattle.tr_steps.proofs.steps.Step.flush.Goals as goal
 
 pub returns : goal.returns

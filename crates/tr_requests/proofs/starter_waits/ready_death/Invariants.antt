@@ -1,0 +1,8 @@
+use Rattle.std.proofs.Common.{◌≡◌, drop}
+use Rattle.tr_model.specs.Waits.{with_death}
+use Rattle.tr_requests.specs.Private.{led_among}
+use Rattle.tr_requests.proofs.starter_waits.ready_death.Given as goal
+
+abbrev pub invariant-loop-group : goal.invariant-loop-group
+invariant-loop-group l =
+    with_death l.table.table (led_among l.table.table l.which (drop l.group-index l.groups)) l.number ≡ with_death l.table.table (led_among l.table.table l.which l.groups) l.number

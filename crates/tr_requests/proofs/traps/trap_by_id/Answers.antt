@@ -1,9 +1,0 @@
-use Rattle.std.proofs.Common.{◌≡◌, ◌∙◌, Some, ap, sym}
-use Rattle.std.specs.Prelude.{option_copied}
-use Rattle.tr_model.specs.Tables.{thread_of}
-use Rattle.tr_requests.proofs.traps.trap_by_id.Goals as goal
-
-pub returns-in-Some-clause-shows : goal.returns-in-Some-clause-shows
-returns-in-Some-clause-shows c l w s =
-    let e : thread_of w.table c.args.tid ≡ Some c.in-Some.thread.now = ap (λ T. thread_of T c.args.tid) (sym s.table) ∙ (sym c.find.ensures.found ∙ ap option_copied c.in-Some.is) in
-    rw e (c.trap_thread.ensures.shows l w s)

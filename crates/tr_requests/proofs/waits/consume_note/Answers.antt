@@ -1,4 +1,0 @@
-use Rattle.tr_requests.proofs.waits.consume_note.Goals as goal
-
-pub returns-in-Some-clause-shows : goal.returns-in-Some-clause-shows
-returns-in-Some-clause-shows c l w s = rw c.in-Some.is (c.change_group.ensures.shows l w s)

@@ -1,0 +1,119 @@
+-- What private functions answer: no public contract cites these.
+use Rattle.std.specs.Prelude.{Bool, List, None, Option, Result, Some, [], filter, if◌then◌else◌, is_some, nat_lt, not, pos, ℕ, ◌&&◌, ◌==◌, ◌∷◌}
+use Rattle.tr_model.specs.Causes.{first, stopped, traceable, where_is, with_thread}
+use Rattle.tr_model.specs.Ends.{pass_on, remove_thread, word_of_end}
+use Rattle.tr_model.specs.Execs.{break_others, trap_new}
+use Rattle.tr_model.specs.Moves.{Work, alter, enqueue, enter}
+use Rattle.tr_model.specs.Preferred.{quiet_or, refused_or}
+use Rattle.tr_model.specs.Requests.{inject, resume, untrace}
+use Rattle.tr_model.specs.Sends.{info, send}
+use Rattle.tr_model.specs.Steps.{gives_report, no_choice}
+use Rattle.tr_model.specs.Tables.{Table, thread_of}
+use Rattle.tr_model.specs.Takes.{act_on}
+use Rattle.tr_model.specs.declared.checked.Checked.{Checked}
+use Rattle.tr_model.specs.declared.checked.Checked.TheVariants.{Due, Quiet}
+use Rattle.tr_model.specs.declared.fates.Fate.TheVariants.{Delivered, Flushed, Suppressed}
+use Rattle.tr_model.specs.declared.replies.Refusal.{Refusal}
+use Rattle.tr_model.specs.declared.replies.Refusal.TheVariants.{Io}
+use Rattle.tr_model.specs.declared.replies.Reply.TheVariants.{Nothing}
+use Rattle.tr_model.specs.declared.rows.Group.{Group}
+use Rattle.tr_pending.specs.declared.instance.Instance.{Instance}
+use Rattle.tr_tracee.specs.Ends.{execing, leaving}
+use Rattle.tr_tracee.specs.Lives.{cont_came, held, is_dead}
+use Rattle.tr_tracee.specs.Threads.{is_leader, is_tracee_of, only, options_of}
+use Rattle.tr_tracee.specs.declared.life.End.{End}
+use Rattle.tr_tracee.specs.declared.thread.Thread.{Thread}
+use Rattle.tr_wait.specs.Words.{asks_for}
+use Rattle.tr_wait.specs.declared.waits.Which.{Which}
+use Rattle.tr_model.specs.declared.rows.Target.TheVariants as target
+use Rattle.tr_tracee.specs.declared.life.Stop.TheVariants as stop
+
+-- Clones
+
+-- a SIGSTOP in its own queue
+abbrev pub stop_child : ℕ → Work → Work
+stop_child id w = enqueue 19 (info (pos 0) 0 (pos 0)) (target.Thread id) w
+
+-- Execve
+
+-- SIGTRAP, by itself
+abbrev pub send_trap : Thread → Work → Work
+send_trap t w = send 5 (info (pos 0) t.id (pos 0)) (target.Thread t.id) w
+
+-- with option exec its stop, else SIGTRAP for an attached tracee
+abbrev pub stop_or_trap : ℕ → Thread → Work → Work
+stop_or_trap former t w = if (options_of t.trace).exec then enter t.id (stop.Exec former) w else trap_new t w
+
+-- the others begin to leave
+abbrev pub wait_for_others : Thread → Work → Work
+wait_for_others t w = alter (only t.id execing) (break_others t.group t.id w)
+
+-- Exits
+
+-- with option exit in its exit stop, else leaving
+abbrev pub leave_or_stop : Thread → End → Work → Work
+leave_or_stop t e w = if (options_of t.trace).exit then enter t.id (stop.Exit (word_of_end e)) w else alter (only t.id (leaving e)) w
+
+-- Restarts, by the signal that the tracer gives: none for 0
+
+-- what a check answers of a restart with this number
+abbrev pub restart_checked : Table → ℕ → ℕ → ℕ → Result Checked Refusal
+restart_checked T a id s = refused_or (first (with_thread T id (λ t. stopped a t ∷ where_is (nat_lt 64 s) Io ∷ []))) (quiet_or None no_choice)
+
+-- from a signal-delivery-stop that holds the instance
+abbrev pub restart_by : Thread → Option ℕ → Instance → Work → Work
+restart_by t None i w = resume Suppressed t w
+restart_by t (Some s) i w = if s == i.sig then act_on t s (cont_came t.life) (resume Delivered t w) else inject t s (resume Suppressed t w)
+
+-- from a stop that holds this
+abbrev pub restart_from : Thread → Option ℕ → Option Instance → Work → Work
+restart_from t o None w = resume Flushed t w
+restart_from t o (Some i) w = restart_by t o i w
+
+-- the same, and then nobody traces it
+abbrev pub detach_from : Thread → Option ℕ → Work → Work
+detach_from t o w = untrace t (restart_from t o (held t.life) w)
+
+-- The end of a tracer
+
+-- a tracee of the actor with option exitkill that isn't dead
+abbrev pub is_to_kill : ℕ → Thread → Bool
+is_to_kill a t = is_tracee_of a t && ((options_of t.trace).exitkill && not (is_dead t.life))
+
+-- the tracees of the actor among these
+abbrev pub tracees_among : List Thread → ℕ → List Thread
+tracees_among ts a = filter (is_tracee_of a) ts
+
+-- those of them that are to be killed
+abbrev pub to_kill_among : List Thread → ℕ → List Thread
+to_kill_among ts a = filter (is_to_kill a) ts
+
+-- Tracing
+
+-- what a check answers of an attach or a seizure
+abbrev pub attach_checked : Table → ℕ → Result Checked Refusal
+attach_checked T id = refused_or (first (with_thread T id (λ t. traceable T t ∷ []))) (quiet_or None no_choice)
+
+-- SIGSTOP, by the kernel
+abbrev pub attach_sends : Thread → Work → Work
+attach_sends t w = send 19 (info (pos 128) 0 (pos 0)) (target.Thread t.id) w
+
+-- Waits
+
+-- those of these groups that the wait asks for and whose leader is in the table
+abbrev pub led_among : Table → Which → List Group → List Group
+led_among T which gs = filter (λ g. asks_for which g.tgid && is_some (thread_of T g.tgid)) gs
+
+-- the first number, if there is one
+abbrev pub first_number : List ℕ → Option ℕ
+first_number [] = None
+first_number (r ∷ rs) = Some r
+
+-- due with the first report that is ready; without one nothing is given
+abbrev pub giving : Option ℕ → Checked
+giving None = Quiet Nothing
+giving (Some r) = Due (gives_report r)
+
+-- a tracer that knows of a death: the dead thread goes, but a leader's death is then reported to the starter
+abbrev pub consume_death : Thread → Work → Work
+consume_death t w = if is_leader t then pass_on t t.report w else remove_thread t w
