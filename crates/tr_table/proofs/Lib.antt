@@ -1,10 +1,11 @@
-pub mod Found
 pub mod GoodStarts
 pub mod Helds
 pub mod Ids
 pub mod Keeping
 pub mod Orders
+pub mod Places
 pub mod Rosters
 pub mod SetActions
 pub mod Started
 pub mod FreeIds
+pub mod Onlys

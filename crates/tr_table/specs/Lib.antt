@@ -5,3 +5,4 @@ pub mod Changes
 pub mod Queues
 pub mod Rows
 pub mod Held
+pub mod Private

@@ -1,4 +1,4 @@
-ghost use Rattle.std.specs.Prelude.{◌≡◌, ◌+◌, ◌-◌, ◌==◌, ◌||◌, filter, map, not, option_copied, slice_index_or};
+ghost use Rattle.std.specs.Prelude.{◌≡◌, ◌+◌, ◌-◌, ◌==◌, ◌||◌, filter, map, not, option_copied, position, slice_index_or};
 ghost use Rattle.std.specs.List.{list_any};
 ghost use Rattle.tr_tracee.specs.Threads.{in_group};
 ghost use Rattle.tr_group.specs.Actions.{reset};
@@ -6,6 +6,7 @@ ghost use Rattle.tr_group.specs.declared.stops.Action.TheVariants.{Default};
 ghost use Rattle.tr_model.specs.Moves.{group_changed, only_group, with_note};
 ghost use Rattle.tr_model.specs.Tables.{actions_of, end_of, group_in, stop_of};
 ghost use Rattle.tr_table.specs.Changes.{regrouped};
+ghost use Rattle.tr_table.specs.Private.{IsGroupPlace};
 
 use crate::membership::has_member;
 use tr_group::{Action, GroupStop};
@@ -33,23 +34,26 @@ pub enum GroupChange {
     ResetActions,
 }
 
-fn changed_by(change: &GroupChange, group: &Group) -> Group
-    ensures { result ≡ regrouped change.now group.now }
-{
-    let mut changed = *group;
-    match change {
-        GroupChange::Begin(signal) => changed.group_stop.begin(*signal),
-        GroupChange::EndStop => {
-            changed.group_stop = GroupStop::No;
-            changed.note = None;
+impl GroupChange {
+    ghost use Rattle.tr_table.specs.Changes.{regrouped};
+
+    /// What it makes of a group.
+    fn make(&self, group: &mut Group)
+        ensures { group.new ≡ regrouped self.now group.old }
+    {
+        match self {
+            GroupChange::Begin(signal) => group.group_stop.begin(*signal),
+            GroupChange::EndStop => {
+                group.group_stop = GroupStop::No;
+                group.note = None;
+            }
+            GroupChange::Complete => group.group_stop.complete(),
+            GroupChange::Die(end) => die(group, end),
+            GroupChange::Act(signal, action) => act(group, *signal, *action),
+            GroupChange::DropNote => group.note = None,
+            GroupChange::ResetActions => reset(&mut group.actions),
         }
-        GroupChange::Complete => changed.group_stop.complete(),
-        GroupChange::Die(end) => die(&mut changed, end),
-        GroupChange::Act(signal, action) => act(&mut changed, *signal, *action),
-        GroupChange::DropNote => changed.note = None,
-        GroupChange::ResetActions => reset(&mut changed.actions),
     }
-    changed
 }
 
 fn die(group: &mut Group, end: &End)
@@ -77,13 +81,11 @@ fn reset(actions: &mut [Action; 64])
     }
 }
 
-fn changed_in(tgid: u32, change: &GroupChange, group: &Group) -> Group
-    ensures { result ≡ only_group tgid (regrouped change.now) group.now }
+fn change_one(group: &mut Group, tgid: u32, change: &GroupChange)
+    ensures { group.new ≡ only_group tgid (regrouped change.now) group.old }
 {
     if group.tgid == tgid {
-        changed_by(change, group)
-    } else {
-        *group
+        change.make(group);
     }
 }
 
@@ -91,7 +93,7 @@ fn change_each(groups: &mut [Group], tgid: u32, change: &GroupChange)
     ensures { groups.new ≡ map (only_group tgid (regrouped change.now)) groups.old }
 {
     for group in groups.iter_mut() {
-        *group = changed_in(tgid, change, group);
+        change_one(group, tgid, change);
     }
 }
 
@@ -102,51 +104,39 @@ pub(crate) fn change_groups(groups: &mut Vec<Group>, tgid: u32, change: &GroupCh
     change_each(groups, tgid, change);
 }
 
-fn with_note(number: u64, status: &Status, group: &Group) -> Group
-    ensures { result ≡ with_note number status.now group.now }
+fn position_of(groups: &[Group], tgid: u32) -> Option<usize>
+    ensures { result ≡ position (λ x. x.tgid == tgid) groups.now }
 {
-    let mut changed = *group;
-    changed.note = Some(Report {
-        number,
-        status: *status,
-    });
-    changed
+    groups.iter().position(|g| g.tgid == tgid)
 }
 
-fn note_first(groups: &mut [Group], tgid: u32, number: u64, status: &Status)
-    ensures { groups.new ≡ group_changed tgid (with_note number status.now) groups.old }
+/// Where the first group with the id stands.
+#[tactic(auto, using(crate::proofs::Places::is_group_place))]
+fn place_in(groups: &[Group], tgid: u32) -> Option<usize>
+    ensures { IsGroupPlace tgid groups.now result }
 {
-    for i in 0..groups.len() {
-        if groups[i].tgid == tgid {
-            groups[i] = with_note(number, status, &groups[i]);
-            return;
-        }
-    }
+    position_of(groups, tgid)
 }
 
-/// The note of this number stands at the group with the id.
-pub(crate) fn note_groups(groups: &mut Vec<Group>, tgid: u32, number: u64, status: &Status)
+/// Sets the note of the group with the id, with the report of this number.
+pub(crate) fn note_group(groups: &mut Vec<Group>, tgid: u32, number: u64, status: &Status)
     ensures items { groups.new.items ≡ group_changed tgid (with_note number status.now) groups.old.items }
 {
-    note_first(groups, tgid, number, status);
-}
-
-fn replace_first(groups: &mut [Group], group: &Group)
-    ensures { groups.new ≡ group_changed group.now.tgid (λ _. group.now) groups.old }
-{
-    for i in 0..groups.len() {
-        if groups[i].tgid == group.tgid {
-            groups[i] = *group;
-            return;
-        }
+    if let Some(place) = place_in(groups, tgid) {
+        groups[place].note = Some(Report {
+            number,
+            status: *status,
+        });
     }
 }
 
-/// The record of the first group with its id.
+/// Overwrites the record of the first group with the same id.
 pub(crate) fn replace_group(groups: &mut Vec<Group>, group: &Group)
     ensures items { groups.new.items ≡ group_changed group.now.tgid (λ _. group.now) groups.old.items }
 {
-    replace_first(groups, group);
+    if let Some(place) = place_in(groups, group.tgid) {
+        groups[place] = *group;
+    }
 }
 
 fn stays(group: &Group, threads: &[Thread], tgid: u32) -> bool

@@ -1,4 +1,4 @@
-ghost use Rattle.std.specs.Prelude.{◌≡◌, ◌+◌, ◌<◌, ◌≤◌, ◌++◌, ◌∷◌, ◌==◌, ◌&&◌, ◌||◌, [], OnErr, OnOk, length, filter, flat_map, is_some, map, not, option_copied, slice_get, slice_set, vec_len, vec_capacity};
+ghost use Rattle.std.specs.Prelude.{◌≡◌, ◌+◌, ◌<◌, ◌≤◌, ◌++◌, ◌∷◌, ◌==◌, ◌&&◌, ◌||◌, [], OnErr, OnOk, length, filter, flat_map, is_some, map, not, option_copied, position, slice_get, slice_set, vec_len, vec_capacity};
 ghost use Rattle.std.specs.List.{list_all, list_any};
 ghost use Rattle.tr_sigset.specs.Sets.{has};
 ghost use Rattle.tr_tracee.specs.Lives.{is_dead, is_live};
@@ -11,6 +11,7 @@ ghost use Rattle.tr_group.specs.Members.{count_in, member, put_member};
 ghost use Rattle.tr_model.specs.Moves.{changed, dropped, endings, ends, in_place};
 ghost use Rattle.tr_model.specs.Tables.{owner_in, thread_in};
 ghost use Rattle.tr_table.specs.Changes.{own};
+ghost use Rattle.tr_table.specs.Private.{IsPlace};
 
 use std::alloc::{AllocError, Global};
 use std::marker::Model;
@@ -105,9 +106,11 @@ impl Threads {
 
     /// What happens to the thread with the id.
     pub(crate) fn change(&mut self, id: u32, change: &Own)
-        ensures { self.new ≡ map (only id (own change.now)) self.old }
+        ensures { self.new ≡ changed id (own change.now) self.old }
     {
-        change_each(&mut self.list, id, change);
+        if let Some(place) = place_in(&self.list, id) {
+            change.make(&mut self.list[place]);
+        }
     }
 
     /// A thread comes last. Where memory is refused nothing has changed.
@@ -122,14 +125,18 @@ impl Threads {
     pub(crate) fn replace(&mut self, thread: &Thread)
         ensures { self.new ≡ changed thread.now.id (λ _. thread.now) self.old }
     {
-        replace_first(&mut self.list, thread);
+        if let Some(place) = place_in(&self.list, thread.id) {
+            self.list[place] = *thread;
+        }
     }
 
     /// The first thread with the id goes.
     pub(crate) fn remove(&mut self, id: u32)
         ensures { self.new ≡ dropped id self.old }
     {
-        remove_first(&mut self.list, id);
+        if let Some(place) = place_in(&self.list, id) {
+            let _removed = self.list.remove(place);
+        }
     }
 
     /// The dead threads with the id go.
@@ -143,7 +150,7 @@ impl Threads {
     pub(crate) fn take_place(&mut self, thread: &Thread)
         ensures { self.new ≡ map (in_place thread.now) (dropped thread.now.id self.old) }
     {
-        remove_first(&mut self.list, thread.id);
+        self.remove(thread.id);
         place_each(&mut self.list, thread);
     }
 
@@ -151,7 +158,9 @@ impl Threads {
     pub(crate) fn enter(&mut self, id: u32, number: u64, stop: &Stop)
         ensures { self.new ≡ changed id (entered_as number stop.now) self.old }
     {
-        enter_first(&mut self.list, id, number, stop);
+        if let Some(place) = place_in(&self.list, id) {
+            self.list[place].enter(stop, number);
+        }
     }
 
     /// The threads of a group but that with the id begin to leave, since that has called execve(2).
@@ -170,110 +179,51 @@ impl Threads {
     pub(crate) fn report(&mut self, id: u32, number: u64, status: &Status)
         ensures { self.new ≡ changed id (reported number status.now) self.old }
     {
-        report_first(&mut self.list, id, number, status);
-    }
-}
-
-fn changed_by(change: &Own, thread: &Thread) -> Thread
-    ensures { result ≡ own change.now thread.now }
-{
-    let mut changed = *thread;
-    match change {
-        Own::Mask(set) => changed.set_mask(*set),
-        Own::Pausing(pausing) => changed.set_pausing(*pausing),
-        Own::Join => changed.join(),
-        Own::Stop => changed.stop(),
-        Own::Unmark => changed.unmark(),
-        Own::Leave(end) => changed.leave(end),
-        Own::Die => changed.die(),
-        Own::Release => changed.release(),
-        Own::WithdrawReport => changed.withdraw_report(),
-        Own::TraceBy(trace) => changed.trace_by(trace),
-        Own::SetOptions(options) => changed.set_options(options),
-        Own::Interrupt => changed.interrupt(),
-        Own::Detach(in_effect) => changed.detach(*in_effect),
-        Own::BeginExec => changed.begin_exec(),
-        Own::EndExec => changed.end_exec(),
-    }
-    changed
-}
-
-fn changed_in(id: u32, change: &Own, thread: &Thread) -> Thread
-    ensures { result ≡ only id (own change.now) thread.now }
-{
-    if thread.id == id {
-        changed_by(change, thread)
-    } else {
-        *thread
-    }
-}
-
-fn change_each(threads: &mut [Thread], id: u32, change: &Own)
-    ensures { threads.new ≡ map (only id (own change.now)) threads.old }
-{
-    for thread in threads.iter_mut() {
-        *thread = changed_in(id, change, thread);
-    }
-}
-
-fn entered(number: u64, stop: &Stop, thread: &Thread) -> Thread
-    ensures { result ≡ entered_as number stop.now thread.now }
-{
-    let mut changed = *thread;
-    changed.enter(stop, number);
-    changed
-}
-
-fn enter_first(threads: &mut [Thread], id: u32, number: u64, stop: &Stop)
-    ensures { threads.new ≡ changed id (entered_as number stop.now) threads.old }
-{
-    for i in 0..threads.len() {
-        if threads[i].id == id {
-            threads[i] = entered(number, stop, &threads[i]);
-            return;
+        if let Some(place) = place_in(&self.list, id) {
+            self.list[place].set_report(number, status);
         }
     }
 }
 
-fn reported(number: u64, status: &Status, thread: &Thread) -> Thread
-    ensures { result ≡ reported number status.now thread.now }
-{
-    let mut changed = *thread;
-    changed.set_report(number, status);
-    changed
-}
+impl Own {
+    ghost use Rattle.tr_table.specs.Changes.{own};
 
-fn report_first(threads: &mut [Thread], id: u32, number: u64, status: &Status)
-    ensures { threads.new ≡ changed id (reported number status.now) threads.old }
-{
-    for i in 0..threads.len() {
-        if threads[i].id == id {
-            threads[i] = reported(number, status, &threads[i]);
-            return;
+    /// What it makes of a thread.
+    fn make(&self, thread: &mut Thread)
+        ensures { thread.new ≡ own self.now thread.old }
+    {
+        match self {
+            Own::Mask(set) => thread.set_mask(*set),
+            Own::Pausing(pausing) => thread.set_pausing(*pausing),
+            Own::Join => thread.join(),
+            Own::Stop => thread.stop(),
+            Own::Unmark => thread.unmark(),
+            Own::Leave(end) => thread.leave(end),
+            Own::Die => thread.die(),
+            Own::Release => thread.release(),
+            Own::WithdrawReport => thread.withdraw_report(),
+            Own::TraceBy(trace) => thread.trace_by(trace),
+            Own::SetOptions(options) => thread.set_options(options),
+            Own::Interrupt => thread.interrupt(),
+            Own::Detach(in_effect) => thread.detach(*in_effect),
+            Own::BeginExec => thread.begin_exec(),
+            Own::EndExec => thread.end_exec(),
         }
     }
 }
 
-fn replace_first(threads: &mut [Thread], thread: &Thread)
-    ensures { threads.new ≡ changed thread.now.id (λ _. thread.now) threads.old }
+fn position_of(threads: &[Thread], id: u32) -> Option<usize>
+    ensures { result ≡ position (λ t. t.id == id) threads.now }
 {
-    for i in 0..threads.len() {
-        if threads[i].id == thread.id {
-            threads[i] = *thread;
-            return;
-        }
-    }
+    threads.iter().position(|t| t.id == id)
 }
 
-fn remove_first(threads: &mut Vec<Thread>, id: u32)
-    ensures { threads.new.items ≡ dropped id threads.old.items }
+/// Where the first thread with the id stands.
+#[tactic(auto, using(crate::proofs::Places::is_place))]
+fn place_in(threads: &[Thread], id: u32) -> Option<usize>
+    ensures { IsPlace id threads.now result }
 {
-    for i in 0..threads.len() {
-        if threads[i].id == id {
-            let _removed = threads.remove(i);
-            return;
-        }
-    }
+    position_of(threads, id)
 }
 
 fn is_dead_one(thread: &Thread, id: u32) -> bool
@@ -288,17 +238,14 @@ fn drop_dead(threads: &mut Vec<Thread>, id: u32)
     threads.retain(|t| !is_dead_one(t, id));
 }
 
-/// What becomes of a thread where another takes its dead leader's place.
-fn placed(thread: &Thread, other: &Thread) -> Thread
-    ensures { result ≡ in_place thread.now other.now }
+/// A dead leader's row becomes that of a thread of its group.
+fn place(other: &mut Thread, thread: &Thread)
+    ensures { other.new ≡ in_place thread.now other.old }
 {
     if other.id == thread.group && other.life.is_dead() {
-        let mut renamed = *thread;
-        renamed.id = thread.group;
-        renamed.report = None;
-        renamed
-    } else {
-        *other
+        *other = *thread;
+        other.id = thread.group;
+        other.report = None;
     }
 }
 
@@ -306,7 +253,7 @@ fn place_each(threads: &mut [Thread], thread: &Thread)
     ensures { threads.new ≡ map (in_place thread.now) threads.old }
 {
     for other in threads.iter_mut() {
-        *other = placed(thread, other);
+        place(other, thread);
     }
 }
 

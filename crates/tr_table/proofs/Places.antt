@@ -1,0 +1,87 @@
+-- The place of the first thread or group with an id.
+use Rattle.std.proofs.Common.{◌≡◌, ◌+◌, ◌<◌, ◌≤◌, ◌==◌, ℕ, suc, Bool, true, false, List, [], ◌∷◌, Option, Some, None, cond, length, get_or, remove, set, nat_lt, if◌then◌else◌, arith, ap, refl, sym, subst}
+use Rattle.std.specs.List.{position, position_or_len}
+use Rattle.std.proofs.lemmas.Bool.Decides.{nat_tests}
+use Rattle.std.proofs.lemmas.List.Recursion.{is_position_or_len}
+use Rattle.tr_tracee.specs.declared.thread.Thread.{Thread}
+use Rattle.tr_model.specs.declared.rows.Group.{Group}
+use Rattle.tr_model.specs.Moves.{changed, dropped, group_changed}
+use Rattle.tr_table.specs.Private.{IsGroupPlace, IsPlace}
+
+below : (m n : ℕ) → nat_lt m n ≡ true → m < n
+below m n h = grind (arith, nat_tests)
+
+past : (m n : ℕ) → nat_lt m n ≡ false → n ≤ m
+past m n h = grind (arith, nat_tests)
+
+-- how many stand before the first that passes
+abbrev first : {X : Type 0} → (X → Bool) → List X → ℕ
+first p [] = 0
+first p (x ∷ xs) = if p x then 0 else suc (first p xs)
+
+first_is : {X : Type 0} (p : X → Bool) (xs : List X) → first p xs ≡ position_or_len p xs
+first_is p xs = is_position_or_len (first p) p refl (λ y ys. step (p y) (first p ys)) xs
+  where
+    step : (b : Bool) (n : ℕ) → (if b then 0 else suc n) ≡ cond b 0 (1 + n)
+    step true n = refl
+    step false n = omega arith
+
+-- the place, by whether there is one
+by_place : {X : Type 0} (p : X → Bool) (xs : List X) (P : Option ℕ → Type 0) → (first p xs < length xs → P (Some (first p xs))) → (length xs ≤ first p xs → P None) → P (position p xs)
+by_place p xs P some none = subst (λ n. P (cond (nat_lt n (length xs)) (Some n) None)) (first_is p xs) (go (nat_lt (first p xs) (length xs)) refl)
+  where
+    go : (b : Bool) → nat_lt (first p xs) (length xs) ≡ b → P (cond b (Some (first p xs)) None)
+    go true h = some (below _ _ h)
+    go false h = none (past _ _ h)
+
+module _ (id : ℕ) where
+  written : (f : Thread → Thread) (d : Thread) (ts : List Thread) → set ts (first (λ t. t.id == id) ts) (f (get_or ts (first (λ t. t.id == id) ts) d)) ≡ changed id f ts
+  written f d [] = refl
+  written f d (t ∷ ts) = go (t.id == id) (written f d ts)
+    where
+      go : (b : Bool) → set ts (first (λ t. t.id == id) ts) (f (get_or ts (first (λ t. t.id == id) ts) d)) ≡ changed id f ts
+          → set (t ∷ ts) (if b then 0 else suc (first (λ t. t.id == id) ts)) (f (get_or (t ∷ ts) (if b then 0 else suc (first (λ t. t.id == id) ts)) d)) ≡ (if b then f t ∷ ts else t ∷ changed id f ts)
+      go true h = refl
+      go false h = ap (λ us. t ∷ us) h
+
+  closed : (ts : List Thread) → remove ts (first (λ t. t.id == id) ts) ≡ dropped id ts
+  closed [] = refl
+  closed (t ∷ ts) = go (t.id == id) (closed ts)
+    where
+      go : (b : Bool) → remove ts (first (λ t. t.id == id) ts) ≡ dropped id ts → remove (t ∷ ts) (if b then 0 else suc (first (λ t. t.id == id) ts)) ≡ (if b then ts else t ∷ dropped id ts)
+      go true h = refl
+      go false h = ap (λ us. t ∷ us) h
+
+  nowhere : (ts : List Thread) → length ts ≤ first (λ t. t.id == id) ts → ((f : Thread → Thread) → changed id f ts ≡ ts) × (dropped id ts ≡ ts)
+  nowhere [] h = (λ f. refl, refl)
+  nowhere (t ∷ ts) h = go (t.id == id) h (nowhere ts)
+    where
+      go : (b : Bool) → suc (length ts) ≤ (if b then 0 else suc (first (λ t. t.id == id) ts)) → (length ts ≤ first (λ t. t.id == id) ts → ((f : Thread → Thread) → changed id f ts ≡ ts) × (dropped id ts ≡ ts))
+          → ((f : Thread → Thread) → (if b then f t ∷ ts else t ∷ changed id f ts) ≡ t ∷ ts) × ((if b then ts else t ∷ dropped id ts) ≡ t ∷ ts)
+      go true k r = absurd (omega (arith, k))
+      go false k r = let s = r (omega (arith, k)) in (λ f. ap (λ us. t ∷ us) (s.0 f), ap (λ us. t ∷ us) s.1)
+
+  pub is_place : (ts : List Thread) (r : Option ℕ) → r ≡ position (λ t. t.id == id) ts → IsPlace id ts r
+  is_place ts r e = subst (IsPlace id ts) (sym e) (by_place (λ t. t.id == id) ts (IsPlace id ts) (λ h. (h, λ f d y k. rw k (written f d ts), closed ts)) (nowhere ts))
+
+module _ (g : ℕ) where
+  group_written : (f : Group → Group) (d : Group) (xs : List Group) → set xs (first (λ x. x.tgid == g) xs) (f (get_or xs (first (λ x. x.tgid == g) xs) d)) ≡ group_changed g f xs
+  group_written f d [] = refl
+  group_written f d (x ∷ xs) = go (x.tgid == g) (group_written f d xs)
+    where
+      go : (b : Bool) → set xs (first (λ x. x.tgid == g) xs) (f (get_or xs (first (λ x. x.tgid == g) xs) d)) ≡ group_changed g f xs
+          → set (x ∷ xs) (if b then 0 else suc (first (λ x. x.tgid == g) xs)) (f (get_or (x ∷ xs) (if b then 0 else suc (first (λ x. x.tgid == g) xs)) d)) ≡ (if b then f x ∷ xs else x ∷ group_changed g f xs)
+      go true h = refl
+      go false h = ap (λ us. x ∷ us) h
+
+  no_group : (xs : List Group) → length xs ≤ first (λ x. x.tgid == g) xs → (f : Group → Group) → group_changed g f xs ≡ xs
+  no_group [] h f = refl
+  no_group (x ∷ xs) h f = go (x.tgid == g) h (no_group xs)
+    where
+      go : (b : Bool) → suc (length xs) ≤ (if b then 0 else suc (first (λ x. x.tgid == g) xs)) → (length xs ≤ first (λ x. x.tgid == g) xs → (f : Group → Group) → group_changed g f xs ≡ xs)
+          → (if b then f x ∷ xs else x ∷ group_changed g f xs) ≡ x ∷ xs
+      go true k r = absurd (omega (arith, k))
+      go false k r = ap (λ us. x ∷ us) (r (omega (arith, k)) f)
+
+  pub is_group_place : (xs : List Group) (r : Option ℕ) → r ≡ position (λ x. x.tgid == g) xs → IsGroupPlace g xs r
+  is_group_place xs r e = subst (IsGroupPlace g xs) (sym e) (by_place (λ x. x.tgid == g) xs (IsGroupPlace g xs) (λ h. (h, λ f d y k. rw k (group_written f d xs))) (no_group xs))
