@@ -45,16 +45,6 @@ applied (change.Continue in_effect) t = continued_by in_effect t
 applied change.NoteCont t = cont_noted t
 applied (change.Leave kill end) t = broken kill end t
 
--- f at the first n threads of the group
-abbrev pub first_changed : ℕ → (Thread → Thread) → Thread → List Thread → (ℕ → List Thread) → List Thread
-first_changed zero f t ts later = t ∷ ts
-first_changed (suc n) f t ts later = f t ∷ later n
-
--- f at each of the first n threads of the group
-abbrev pub upto : ℕ → ℕ → (Thread → Thread) → List Thread → List Thread
-upto n g f [] = []
-upto n g f (t ∷ ts) = if in_group g t then first_changed n f t ts (λ j. upto j g f ts) else t ∷ upto n g f ts
-
 -- the number of the instance that a signal-delivery-stop holds, if there is one
 abbrev pub number_held : Option Instance → List ℕ
 number_held None = []

@@ -5,7 +5,9 @@
 mod members;
 mod stops;
 
-pub use members::{Change, Members, begin_death, continue_all, initiate, leave_all, note_cont};
+pub use members::{
+    Change, Members, begin_death, change_each, continue_all, initiate, leave_all, note_cont,
+};
 pub use stops::{Action, GroupStop};
 
 #[cfg(test)]

@@ -27,6 +27,10 @@ pub trait Members {
         requires place { i < count_in tgid (threads self.old) }
         requires same { (t : Thread) → member tgid i (threads self.old) ≡ Some t → (t.id ≡ thread.id) × (t.group ≡ thread.group) }
         ensures { threads self.new ≡ put_member tgid i thread (threads self.old) };
+
+    /// Makes a change of each thread of the group, in one walk.
+    fn change_all(&mut self, tgid: u32, change: &Change)
+        ensures { threads self.new ≡ map (throughout tgid (applied change.now)) (threads self.old) };
 }
 
 /// What happens to each thread of a group.
@@ -42,32 +46,41 @@ pub enum Change {
     Leave(bool, End),
 }
 
-fn applied_to(change: &Change, thread: &Thread) -> Thread
-    ensures { result ≡ applied change.now thread.now }
-{
-    let mut changed = *thread;
-    match change {
-        Change::Mark => changed.mark(),
-        Change::Continue(in_effect) => {
-            changed.note();
-            if *in_effect {
-                changed.continue_one();
+impl Change {
+    ghost use Rattle.tr_group.specs.Members.{applied};
+
+    /// Changes the record of a thread.
+    pub fn make(&self, thread: &mut Thread)
+        ensures { thread.new ≡ applied self.now thread.old }
+    {
+        match self {
+            Change::Mark => thread.mark(),
+            Change::Continue(in_effect) => {
+                thread.note();
+                if *in_effect {
+                    thread.continue_one();
+                }
             }
+            Change::NoteCont => thread.note_cont(),
+            Change::Leave(kill, end) => thread.begin_to_leave(*kill, end),
         }
-        Change::NoteCont => changed.note_cont(),
-        Change::Leave(kill, end) => changed.begin_to_leave(*kill, end),
     }
-    changed
 }
 
-/// One change of each thread of a group.
-fn alter<M: Members>(members: &mut M, tgid: u32, change: &Change)
-    ensures { M.threads members.new ≡ map (throughout tgid (applied change.now)) (M.threads members.old) }
+fn change_one(thread: &mut Thread, tgid: u32, change: &Change)
+    ensures { thread.new ≡ throughout tgid (applied change.now) thread.old }
 {
-    let count = members.count(tgid);
-    for i in 0..count {
-        let thread = members.at(tgid, i);
-        members.put(tgid, i, applied_to(change, &thread));
+    if thread.group == tgid {
+        change.make(thread);
+    }
+}
+
+/// Makes a change of each thread of a group in a list: what `change_all` is where all threads stand in one.
+pub fn change_each(threads: &mut [Thread], tgid: u32, change: &Change)
+    ensures { threads.new ≡ map (throughout tgid (applied change.now)) threads.old }
+{
+    for thread in threads.iter_mut() {
+        change_one(thread, tgid, change);
     }
 }
 
@@ -75,7 +88,7 @@ fn alter<M: Members>(members: &mut M, tgid: u32, change: &Change)
 pub fn initiate<M: Members>(members: &mut M, tgid: u32)
     ensures { M.threads members.new ≡ map (throughout tgid marked) (M.threads members.old) }
 {
-    alter(members, tgid, &Change::Mark);
+    members.change_all(tgid, &Change::Mark);
 }
 
 /// A SIGCONT came: each live seized thread of the group gets the note mark, and where a group-stop is in effect its
@@ -83,14 +96,14 @@ pub fn initiate<M: Members>(members: &mut M, tgid: u32)
 pub fn continue_all<M: Members>(members: &mut M, tgid: u32, in_effect: bool)
     ensures { M.threads members.new ≡ map (throughout tgid (continued_by in_effect)) (M.threads members.old) }
 {
-    alter(members, tgid, &Change::Continue(in_effect));
+    members.change_all(tgid, &Change::Continue(in_effect));
 }
 
 /// A SIGCONT came: each signal-delivery-stop of the group notes it.
 pub fn note_cont<M: Members>(members: &mut M, tgid: u32)
     ensures { M.threads members.new ≡ map (throughout tgid cont_noted) (M.threads members.old) }
 {
-    alter(members, tgid, &Change::NoteCont);
+    members.change_all(tgid, &Change::NoteCont);
 }
 
 /// The group begins to die: each of its threads that isn't dead begins to leave with this end; told where `kill` says
@@ -117,7 +130,7 @@ pub fn begin_death<M: Members>(
 pub fn leave_all<M: Members>(members: &mut M, tgid: u32, kill: bool, end: &End)
     ensures { M.threads members.new ≡ map (throughout tgid (broken kill end.now)) (M.threads members.old) }
 {
-    alter(members, tgid, &Change::Leave(kill, *end));
+    members.change_all(tgid, &Change::Leave(kill, *end));
 }
 
 /// Appends the numbers that the threads of a group hold.

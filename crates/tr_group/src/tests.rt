@@ -29,6 +29,10 @@ impl Members for Roster {
         let place = place_of(&self.all, tgid, i);
         self.all[place] = thread;
     }
+
+    fn change_all(&mut self, tgid: u32, change: &Change) {
+        change_each(&mut self.all, tgid, change);
+    }
 }
 
 fn count_of(threads: &[Thread], tgid: u32) -> usize

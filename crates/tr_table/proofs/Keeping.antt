@@ -9,7 +9,9 @@ use Rattle.tr_tracee.specs.Lives.{is_dead, is_in_stop}
 use Rattle.tr_tracee.specs.Marks.{cont_noted, marked}
 use Rattle.tr_tracee.specs.Stops.{entered_as, reported, without_trace}
 use Rattle.tr_tracee.specs.Threads.{only, throughout}
-use Rattle.tr_group.specs.Members.{continued_by}
+use Rattle.tr_group.specs.Members.{applied, continued_by}
+use Rattle.tr_group.specs.declared.members.Change.{Change}
+use Rattle.tr_group.specs.declared.members.Change.TheVariants as member
 use Rattle.tr_model.specs.declared.rows.Group.{Group}
 use Rattle.tr_model.specs.Moves.{changed, group_changed}
 use Rattle.tr_table.specs.Changes.{own}
@@ -32,6 +34,15 @@ same_broken kill e t = elim (is_dead t.life) as (λ b. Same t (if b then t else 
 
 throughout_group : (g : ℕ) (f : Thread → Thread) → ((t : Thread) → Same t (f t)) → (ts : List Thread) → IsRoster ts → IsRoster (map (throughout g f) ts)
 throughout_group g f s ts h = roster_map (throughout g f) (λ t. same_where (t.group == g) t (f t) (s t)) ts h
+
+same_applied : (change : Change) (t : Thread) → Same t (applied change t)
+same_applied member.Mark t = record { id = refl; group = refl }
+same_applied (member.Continue in_effect) t = same_continued in_effect t
+same_applied member.NoteCont t = record { id = refl; group = refl }
+same_applied (member.Leave kill e) t = same_broken kill e t
+
+pub roster_applied : (g : ℕ) (change : Change) (ts : List Thread) → IsRoster ts → IsRoster (map (throughout g (applied change)) ts)
+roster_applied g change ts h = throughout_group g (applied change) (same_applied change) ts h
 
 pub roster_marked : (g : ℕ) (ts : List Thread) → IsRoster ts → IsRoster (map (throughout g marked) ts)
 roster_marked g ts h = throughout_group g marked (λ t. record { id = refl; group = refl }) ts h

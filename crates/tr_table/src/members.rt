@@ -1,5 +1,5 @@
 use crate::table::Table;
-use tr_group::Members;
+use tr_group::{Change, Members};
 use tr_tracee::Thread;
 
 impl Members for Table {
@@ -17,5 +17,9 @@ impl Members for Table {
 
     fn put(&mut self, tgid: u32, i: usize, thread: Thread) {
         self.threads.put(tgid, i, thread);
+    }
+
+    fn change_all(&mut self, tgid: u32, change: &Change) {
+        self.threads.change_all(tgid, change);
     }
 }

@@ -16,7 +16,7 @@ ghost use Rattle.tr_table.specs.Private.{IsPlace};
 use std::alloc::{AllocError, Global};
 use std::marker::Model;
 use std::slice;
-use tr_group::Members;
+use tr_group::{Change, Members, change_each};
 use tr_model::{Ending, Fate, Target};
 use tr_pending::Instance;
 use tr_sigset::{SigSet, Signal};
@@ -88,6 +88,10 @@ impl Members for Threads {
     fn put(&mut self, tgid: u32, i: usize, thread: Thread) {
         let place = place_of(&self.list, tgid, i);
         self.list[place] = thread;
+    }
+
+    fn change_all(&mut self, tgid: u32, change: &Change) {
+        change_each(&mut self.list, tgid, change);
     }
 }
 
