@@ -6,6 +6,7 @@ pub mod Orders
 pub mod Places
 pub mod Rosters
 pub mod SetActions
+pub mod Settling
 pub mod Started
 pub mod FreeIds
 pub mod Onlys

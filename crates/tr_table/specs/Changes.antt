@@ -1,10 +1,11 @@
 -- What happens to the record of one thread or one group.
-use Rattle.std.specs.Prelude.{ℕ, List, [], map, filter, Bool, ◌&&◌, ◌==◌}
+use Rattle.std.specs.Prelude.{ℕ, List, [], length, map, filter, Bool, ◌&&◌, ◌==◌}
 use Rattle.tr_pending.specs.declared.instance.Instance.{Instance}
 use Rattle.tr_tracee.specs.declared.thread.Thread.{Thread}
 use Rattle.tr_tracee.specs.Ends.{dead, execed, execing, leaving, released, unmarked}
 use Rattle.tr_tracee.specs.Marks.{joining, masked, paused, stopped}
 use Rattle.tr_tracee.specs.Stops.{interrupted, set_options, told_nothing, traced_by, untraced}
+use Rattle.tr_group.specs.GroupStops.{is_stopping}
 use Rattle.tr_model.specs.declared.rows.Group.{Group}
 use Rattle.tr_model.specs.declared.rows.Target.{Target}
 use Rattle.tr_model.specs.declared.rows.Waiting.{Waiting}
@@ -67,6 +68,10 @@ is_flushed ts g f q = flushes f q.instance.sig && owner_in ts q.target == g
 -- the ids of the groups, in table order
 abbrev pub tgids : Table → List ℕ
 tgids T = map (λ x. x.tgid) T.groups
+
+-- how many group-stops are under way
+abbrev pub stopping : Table → ℕ
+stopping T = length (filter (λ x. is_stopping x.group_stop) T.groups)
 
 -- a table of these threads and groups, for what asks for their ids alone
 abbrev pub ids_table : List Thread → List Group → Table

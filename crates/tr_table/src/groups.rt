@@ -1,7 +1,8 @@
-ghost use Rattle.std.specs.Prelude.{◌≡◌, ◌+◌, ◌-◌, ◌==◌, ◌||◌, filter, map, not, option_copied, position, slice_index_or};
+ghost use Rattle.std.specs.Prelude.{◌≡◌, ◌+◌, ◌-◌, ◌==◌, ◌||◌, filter, length, map, not, option_copied, position, slice_index_or};
 ghost use Rattle.std.specs.List.{list_any};
 ghost use Rattle.tr_tracee.specs.Threads.{in_group};
 ghost use Rattle.tr_group.specs.Actions.{reset};
+ghost use Rattle.tr_group.specs.GroupStops.{is_stopping};
 ghost use Rattle.tr_group.specs.declared.stops.Action.TheVariants.{Default};
 ghost use Rattle.tr_model.specs.Moves.{group_changed, only_group, with_note};
 ghost use Rattle.tr_model.specs.Tables.{actions_of, end_of, group_in, stop_of};
@@ -183,4 +184,11 @@ pub(crate) fn action_in(groups: &[Group], tgid: u32, signal: Signal) -> Action
         Some(group) => group.actions[usize::from(signal.number() - 1)],
         None => Action::Default,
     }
+}
+
+/// How many group-stops are under way.
+pub(crate) fn count_stopping(groups: &[Group]) -> usize
+    ensures { result ≡ length (filter (λ x. is_stopping x.group_stop) groups.now) }
+{
+    groups.iter().filter(|g| g.group_stop.is_stopping()).count()
 }

@@ -6,9 +6,9 @@ ghost use Rattle.tr_pending.specs.Waiting.{best_of, is_waiting};
 ghost use Rattle.tr_model.specs.Journals.{IsSorted};
 ghost use Rattle.tr_model.specs.Moves.{instance_in};
 ghost use Rattle.tr_model.specs.Tables.{action_of, all_dead, end_of, group_of, has_live, has_stop_mark, has_traced, members, others_dead, owner, queue, stop_of};
-ghost use Rattle.tr_table.specs.Changes.{tgids};
+ghost use Rattle.tr_table.specs.Changes.{stopping, tgids};
 
-use crate::groups::{action_in, end_in, stop_in};
+use crate::groups::{action_in, count_stopping, end_in, stop_in};
 use crate::membership::{
     all_dead, count_members, has_live, has_stop_mark, has_traced, others_dead, some_blocks,
 };
@@ -128,6 +128,13 @@ impl Table {
         ensures sorted { IsSorted self.now.table.waiting }
     {
         find_instance(&self.waiting, n)
+    }
+
+    /// How many group-stops are under way. With none the end of a step has none to complete.
+    pub fn stopping(&self) -> usize
+        ensures { result ≡ stopping self.now.table }
+    {
+        count_stopping(&self.groups)
     }
 
     /// How many groups there are.
