@@ -95,7 +95,18 @@ impl Step {
     }
 
     /// The last change of a step: a group-stop whose threads have all stopped is complete.
+    #[tactic(auto, using(tr_table::proofs::Settling::none_stopping))]
     pub fn settle(&mut self)
+        requires { length self.old.work.table.groups ≤ self.old.room }
+        ensures work { self.new.work ≡ settle self.old.work }
+        ensures taken_from { self.new.taken_from ≡ self.old.taken_from }
+    {
+        if self.table.stopping() > 0 {
+            self.settle_each();
+        }
+    }
+
+    fn settle_each(&mut self)
         requires { length self.old.work.table.groups ≤ self.old.room }
         ensures work { self.new.work ≡ settle self.old.work }
         ensures taken_from { self.new.taken_from ≡ self.old.taken_from }

@@ -2,7 +2,7 @@ use Rattle.std.proofs.Common.{◌≡◌, ◌+◌, ◌≤◌, length, take}
 use Rattle.tr_model.specs.GroupStops.{settle_group}
 use Rattle.tr_model.specs.Moves.{each}
 use Rattle.tr_table.specs.Changes.{tgids}
-use Rattle.tr_steps.proofs.steps.Step.settle.Given as goal
+use Rattle.tr_steps.proofs.steps.Step.settle_each.Given as goal
 
 abbrev pub invariant-loop-i : goal.invariant-loop-i
 invariant-loop-i v =

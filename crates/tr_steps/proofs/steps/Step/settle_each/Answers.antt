@@ -2,7 +2,7 @@ use Rattle.std.proofs.Common.{◌≡◌, ◌<◌, ap, ◌∙◌, arith, length, 
 use Rattle.tr_model.specs.GroupStops.{settle_group}
 use Rattle.tr_table.specs.Changes.{tgids}
 use Rattle.tr_steps.proofs.Groups.{each_more, settle_group_tgids}
-use Rattle.tr_steps.proofs.steps.Step.settle.Goals as goal
+use Rattle.tr_steps.proofs.steps.Step.settle_each.Goals as goal
 
 pub loop-i-preserved : goal.loop-i-preserved
 loop-i-preserved c =
