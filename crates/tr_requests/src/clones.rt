@@ -59,13 +59,12 @@ fn stop_child(step: &mut Step, id: u32)
     requires { 1 ≤ step.old.room }
     ensures { Moves (stop_child id) 1 step.old step.new }
 {
-    let stop = Signal::new(19).unwrap();
     let info = Info {
         code: 0,
         pid: 0,
         value: 0,
     };
-    step.enqueue(stop, &info, Target::Thread(id));
+    step.enqueue(Signal::STOP, &info, Target::Thread(id));
 }
 
 fn stop_child_unless(step: &mut Step, is_seized: bool, id: u32)

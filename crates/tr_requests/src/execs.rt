@@ -25,13 +25,12 @@ fn send_trap(step: &mut Step, thread: &Thread)
     requires { 3 ≤ step.old.room }
     ensures { Moves (send_trap thread.now) 3 step.old step.new }
 {
-    let trap = Signal::new(5).unwrap();
     let info = Info {
         code: 0,
         pid: thread.id,
         value: 0,
     };
-    step.send(trap, &info, Target::Thread(thread.id));
+    step.send(Signal::TRAP, &info, Target::Thread(thread.id));
 }
 
 /// An attached tracee is sent SIGTRAP.

@@ -55,11 +55,9 @@ fn kill_at(step: &mut Step, id: u32)
     requires { 3 ≤ step.old.room }
     ensures { Moves (at id exit_kill) 3 step.old step.new }
 {
-    let kill = Signal::new(9).unwrap();
     if let Some(thread) = step.thread(id) {
-        let tgid = thread.group;
         step.accept_as(Fate::Delivered);
-        step.kill_group(tgid, kill);
+        step.kill_group(thread.group);
     }
 }
 

@@ -58,13 +58,12 @@ fn send_stop(step: &mut Step, thread: &Thread)
     requires { 3 ≤ step.old.room }
     ensures { Moves (attach_sends thread.now) 3 step.old step.new }
 {
-    let stop = Signal::new(19).unwrap();
     let info = Info {
         code: 128,
         pid: 0,
         value: 0,
     };
-    step.send(stop, &info, Target::Thread(thread.id));
+    step.send(Signal::STOP, &info, Target::Thread(thread.id));
 }
 
 fn attach_to(step: &mut Step, actor: u32, thread: &Thread)

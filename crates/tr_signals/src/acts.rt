@@ -33,8 +33,8 @@ fn die_of(step: &mut Step, tgid: u32, signal: Signal)
     requires { 2 ≤ step.old.room }
     ensures { Moves (die_of tgid signal) 2 step.old step.new }
 {
-    if signal.number() == 9 {
-        step.kill_group(tgid, signal);
+    if signal == Signal::KILL {
+        step.kill_group(tgid);
     } else {
         step.begin_death(tgid, &End::Killed(signal), false);
     }

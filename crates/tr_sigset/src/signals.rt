@@ -72,6 +72,18 @@ impl Model for Signal {
 }
 
 impl Signal {
+    /// SIGKILL, which no thread can block, catch or ignore.
+    pub const KILL: Signal = Signal { number: 9 };
+
+    /// SIGTRAP, which execve(2) sends to an attached tracee.
+    pub const TRAP: Signal = Signal { number: 5 };
+
+    /// SIGCONT, which continues a stopped process.
+    pub const CONT: Signal = Signal { number: 18 };
+
+    /// SIGSTOP, which no thread can block, catch or ignore.
+    pub const STOP: Signal = Signal { number: 19 };
+
     /// The signal of a number, where that is 1 to 64.
     pub fn new(number: u8) -> Option<Signal>
         ensures { SomeIff result (IsSignal number) number }

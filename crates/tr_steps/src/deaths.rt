@@ -29,12 +29,11 @@ impl Step {
     }
 
     /// A KILL is delivered to a group.
-    pub fn kill_group(&mut self, tgid: u32, signal: Signal)
-        requires room { 2 ≤ self.old.room }
-        requires kill { signal ≡ 9 }
+    pub fn kill_group(&mut self, tgid: u32)
+        requires { 2 ≤ self.old.room }
         ensures { Moves (kill_group tgid) 2 self.old self.new }
     {
         self.tell_killed(tgid);
-        self.begin_death(tgid, &End::Killed(signal), true);
+        self.begin_death(tgid, &End::Killed(Signal::KILL), true);
     }
 }

@@ -15,16 +15,15 @@ use tr_table::Flush;
 impl Step {
     // First: KILL is delivered at once, whichever thread it aims at; a group whose threads are all dead flushes it.
 
-    fn send_kill(&mut self, tgid: u32, signal: Signal)
-        requires room { 3 ≤ self.old.room }
-        requires kill { signal ≡ 9 }
+    fn send_kill(&mut self, tgid: u32)
+        requires { 3 ≤ self.old.room }
         ensures { Moves (send_kill tgid) 3 self.old self.new }
     {
         if self.table().all_dead(tgid) {
             self.accept_as(Fate::Flushed);
         } else {
             self.accept_as(Fate::Delivered);
-            self.kill_group(tgid, signal);
+            self.kill_group(tgid);
         }
     }
 
@@ -58,7 +57,7 @@ impl Step {
     {
         if signal.is_stop() {
             self.flush(tgid, &Flush::Cont);
-        } else if signal.number() == 18 {
+        } else if signal == Signal::CONT {
             self.continue_by_signal(tgid);
         }
     }
@@ -135,9 +134,9 @@ impl Step {
         requires { 3 ≤ self.old.room }
         ensures { Moves (send signal info.now target) 3 self.old self.new }
     {
-        if signal.number() == 9 {
+        if signal == Signal::KILL {
             let tgid = self.table().owner(target);
-            self.send_kill(tgid, signal);
+            self.send_kill(tgid);
         } else {
             self.send_other(signal, info, target);
         }
