@@ -1,5 +1,5 @@
 -- A run of workers: one for each actor of a scenario, and the text of what they leave.
-use Rattle.std.specs.Prelude.{◌≡◌, ◌⊎◌, ℕ, ◌<◌, ◌≤◌, ◌==◌, List, [], ◌∷◌, ◌++◌, codes, decimal, length, sum_by, if◌then◌else◌, Result, Ok, Err}
+use Rattle.std.specs.Prelude.{◌≡◌, ◌⊎◌, ℕ, ◌<◌, ◌≤◌, ◌==◌, Bool, true, List, [], ◌∷◌, ◌++◌, codes, decimal, length, map, sum_by, if◌then◌else◌, Result, Ok, Err}
 use Rattle.tr_table.specs.declared.starts.Start.{Start}
 use Rattle.tr_table.specs.Starts.{table_of}
 use Rattle.tr_kernel.specs.States.{State}
@@ -9,15 +9,20 @@ use Rattle.tr_status.specs.Texts.{texts}
 use Rattle.tr_status.specs.Writing.{IsFront}
 use Rattle.tr_workers.specs.declared.receipts.Receipts.{Receipts}
 use Rattle.tr_workers.specs.declared.scripts.Item.{Item}
+use Rattle.tr_workers.specs.declared.scripts.Plan.TheVariants as plan
+use Rattle.tr_workers.specs.declared.scripts.Repeat.TheVariants.{Times}
 use Rattle.tr_workers.specs.declared.scripts.Script.{Script}
 use Rattle.tr_workers.specs.declared.working.Ended.{Ended}
 use Rattle.tr_workers.specs.declared.working.Ended.TheVariants.{AtEnd, OutOfTurns}
-use Rattle.tr_workers.specs.Runs.{AreDone, tasks}
+use Rattle.tr_workers.specs.declared.runs.RunFault.{RunFault}
+use Rattle.tr_workers.specs.declared.runs.RunFault.TheVariants as run_fault
+use Rattle.tr_workers.specs.Runs.{AreDone}
 use Rattle.tr_workers.specs.Settled.{IsSettled}
 use Rattle.tr_scenario.specs.declared.faults.ScenarioFault.{ScenarioFault}
-use Rattle.tr_scenario.specs.declared.faults.ScenarioFault.TheVariants.{NoMemory, TooLarge, Unsettled}
+use Rattle.tr_scenario.specs.declared.faults.ScenarioFault.TheVariants.{BadStart, NoMemory, Repeated, TooLarge, Unsettled}
 use Rattle.tr_scenario.specs.declared.steps.Scenario.{Scenario}
 use Rattle.tr_scenario.specs.declared.steps.Step.{Step}
+use Rattle.tr_scenario.specs.declared.threads.Share.{Share}
 use Rattle.tr_scenario.specs.Kernels.{so_far}
 use Rattle.tr_scenario.specs.Printing.{IsHalt}
 use Rattle.tr_scenario.specs.RunTexts.{end_text}
@@ -27,25 +32,29 @@ use Rattle.tr_scenario.specs.Serial.{Devices, HasRead, IsRefused, IsUnread}
 
 -- the event of a step, as often as it says
 abbrev pub item_of : Step → Item
-item_of s = record { event = s.event; times = s.times }
+item_of s = record { event = s.event; repeat = Times s.times }
 
--- of a single step
-abbrev pub script_of : Step → Script
-script_of s = record { actor = s.actor; items = item_of s ∷ [] }
+-- an actor's share of a single step
+abbrev pub share_of : Step → Share
+share_of s = record { actor = s.actor; items = item_of s ∷ [] }
 
--- a step goes to its actor's script, which comes last where it is new
-abbrev pub with_step : List Script → Step → List Script
-with_step [] s = script_of s ∷ []
+-- a step goes to its actor's share, which comes last where it is new
+abbrev pub with_step : List Share → Step → List Share
+with_step [] s = share_of s ∷ []
 with_step (x ∷ xs) s = if x.actor == s.actor then record { actor = x.actor; items = x.items ++ item_of s ∷ [] } ∷ xs else x ∷ with_step xs s
 
--- each step goes to its actor's script, in their order
-abbrev pub with_steps : List Script → List Step → List Script
+-- each step goes to its actor's share, in their order
+abbrev pub with_steps : List Share → List Step → List Share
 with_steps xs [] = xs
 with_steps xs (s ∷ ss) = with_steps (with_step xs s) ss
 
+-- a share as a script
+abbrev pub script_of : Share → Script
+script_of x = record { actor = x.actor; plan = plan.Items x.items }
+
 -- a script for each actor, in order of first appearance
 abbrev pub scripts_of : List Step → List Script
-scripts_of ss = with_steps [] ss
+scripts_of ss = map script_of (with_steps [] ss)
 
 -- The text
 
@@ -76,12 +85,16 @@ workers_text k ws = worker_lines ws ++ end_text (table_of k.start) (so_far k)
 abbrev pub settled_text : State → List Receipts → List ℕ
 settled_text k ws = workers_text k ws ++ codes "settled\n"
 
+-- the gate of these runs says yes to every worker at every turn
+abbrev pub always : ℕ → ℕ → Bool → Type 0
+always worker turn said = said ≡ true
+
 -- what at most 64 workers leave: each has followed its script within the turns, and their entries and accepted signals are those of the journal and the table
 pub record IsRun (start : Start) (scripts : List Script) (turns : ℕ) (k : State) (asked : List Asked) (ws : List Receipts) : Type 0 where
   pub few : length scripts ≤ 64
   pub begun : k.start ≡ start
   pub kept : IsKept (record { kernel = k; asked = asked })
-  pub done : AreDone (tasks scripts turns) ws
+  pub done : AreDone always turns 0 scripts ws
   pub entries : length k.journal ≡ sum_by (λ (w : Receipts). w.entries) ws
   pub accepted : k.table.accepted ≡ sum_by (λ (w : Receipts). w.accepted) ws
 
@@ -95,9 +108,15 @@ PrintsRun old new failures failures_new k asked ws (Err e) =
     (IsFront old new (settled_text k ws) × IsHalt e failures failures_new)
     ⊎ ((e ≡ Unsettled) × (IsSettled k asked ws → ⊥) × (new ≡ old ++ workers_text k ws) × (failures_new ≡ failures))
 
--- there is no run to print: more than 64 actors, want of memory, or no kernel of this start from the hub
+-- what a fault of a run is to the scenario
+abbrev pub fault_of : RunFault → ScenarioFault
+fault_of run_fault.BadStart = BadStart
+fault_of run_fault.Repeated = Repeated
+fault_of run_fault.NoMemory = NoMemory
+
+-- there is no run to print: more than 64 actors, or want of memory
 abbrev pub IsUnrun : List Script → ScenarioFault → Type 0
-IsUnrun scripts e = ((64 < length scripts) × (e ≡ TooLarge)) ⊎ (((length scripts ≤ 64) × (e ≡ Unsettled)) ⊎ (e ≡ NoMemory))
+IsUnrun scripts e = ((64 < length scripts) × (e ≡ TooLarge)) ⊎ (e ≡ NoMemory)
 
 -- the scripts are run and what is left is printed
 abbrev pub RunsWorkers : {X : Type 0} → List ℕ → List ℕ → ℕ → ℕ → Start → List Script → ℕ → Result X ScenarioFault → Type 0

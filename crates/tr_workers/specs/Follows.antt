@@ -1,32 +1,18 @@
--- Which calls a script makes, and the lists of their answers.
-use Rattle.std.specs.Prelude.{◌≡◌, ℕ, ◌+◌, ◌-◌, ◌≤◌, ◌↔◌, List, [], ◌∷◌, ◌++◌, length, map, replicate, Option, Some, None, slice_get, if◌then◌else◌}
+-- That calls follow a script, and the lists of their answers.
+use Rattle.std.specs.Prelude.{◌≡◌, ℕ, ◌+◌, ◌≤◌, ◌↔◌, List, [], ◌∷◌, ◌++◌, length, Some, None, if◌then◌else◌}
 use Rattle.tr_model.specs.declared.events.Event.{Event}
 use Rattle.tr_model.specs.declared.replies.Refusal.TheVariants.{NoMemory}
+use Rattle.tr_model.specs.Runs as runs
 use Rattle.tr_kernel.specs.declared.answers.Answer.{Answer}
 use Rattle.tr_kernel.specs.declared.answers.Answer.TheVariants.{Entered, Read, Refused}
 use Rattle.tr_kernel.specs.declared.answers.Receipt.{Receipt}
 use Rattle.tr_kernel.specs.Answers.{IfEntered}
 use Rattle.tr_hub.specs.Answers.{is_kept}
-use Rattle.tr_workers.specs.declared.scripts.Item.{Item}
+use Rattle.tr_workers.specs.declared.scripts.Plan.{Plan}
 use Rattle.tr_workers.specs.declared.ports.Told.{Told}
 use Rattle.tr_workers.specs.declared.working.Ended.{Ended}
 use Rattle.tr_workers.specs.declared.working.Ended.TheVariants.{AtEnd, OutOfTurns}
-
--- Scripts
-
--- each item as often as it says
-abbrev pub events_of : List Item → List Event
-events_of [] = []
-events_of (i ∷ rest) = replicate i.times i.event ++ events_of rest
-
--- the same without the first calls of the first item
-abbrev pub events_after : ℕ → List Item → List Event
-events_after done [] = []
-events_after done (i ∷ rest) = replicate (i.times - done) i.event ++ events_of rest
-
--- the script's next call after these answers
-abbrev pub next_call : List Item → List Answer → Option Event
-next_call items answers = slice_get (events_of items) (length answers)
+use Rattle.tr_workers.specs.Scripts.{Progress, begun, next, told}
 
 -- Calls
 
@@ -39,14 +25,21 @@ pub record Made : Type 0 where
 abbrev pub made : Event → Answer → Made
 made event answer = record { event = event; answer = answer }
 
--- the answers of the calls, in order
-abbrev pub answers_of : List Made → List Answer
-answers_of calls = map (λ (m : Made). m.answer) calls
+-- what a script learns of an answer
+abbrev pub heard : Answer → runs.Answer
+heard (Entered r) = runs.Entered r.reply
+heard (Read reply) = runs.Read reply
+heard (Refused why) = runs.Refused why
 
--- after the answers before it, each call is the script's next
-abbrev pub AreNext : List Item → List Answer → List Made → Type 0
-AreNext items before [] = Unit {0}
-AreNext items before (m ∷ rest) = (next_call items before ≡ Some m.event) × AreNext items (before ++ m.answer ∷ []) rest
+-- each call is the script's next after the answers before it
+abbrev pub AreNext : Progress → List Made → Type 0
+AreNext p [] = Unit {0}
+AreNext p (m ∷ rest) = (next p ≡ Some m.event) × AreNext (told p (heard m.answer)) rest
+
+-- how far the script has come by these calls
+abbrev pub progress_after : Progress → List Made → Progress
+progress_after p [] = p
+progress_after p (m ∷ rest) = progress_after (told p (heard m.answer)) rest
 
 -- its receipt is of the event called, which accepted at most 1,024 signals; and it was not refused for want of memory
 abbrev pub IsAnswered : Made → Type 0
@@ -80,18 +73,18 @@ told_of after [] = []
 told_of after (m ∷ rest) = told_in after m.event m.answer ++ told_of (after + length (receipts_in m.answer)) rest
 
 -- there are so many calls with answers, each the script's next; these are their receipts and their other answers; and the end is reached exactly where no call is left
-pub record Follows (items : List Item) (count : ℕ) (list : List Receipt) (told : List Told) (outcome : Ended) : Type 0 where
+pub record Follows (plan : Plan) (count : ℕ) (list : List Receipt) (others : List Told) (outcome : Ended) : Type 0 where
   pub calls : List Made
   pub number : length calls ≡ count
-  pub next : AreNext items [] calls
+  pub follow : AreNext (begun plan) calls
   pub answered : AreAnswered calls
   pub receipts : receipts_of calls ≡ list
-  pub others : told_of 0 calls ≡ told
-  pub ends : (outcome ≡ AtEnd) ↔ (next_call items (answers_of calls) ≡ None)
+  pub tell : told_of 0 calls ≡ others
+  pub ends : (outcome ≡ AtEnd) ↔ (next (progress_after (begun plan) calls) ≡ None)
 
 -- within the turns a call more was made than those that follow the script, of which one was left; and it is in neither list
-pub record IsCutShort (items : List Item) (turns count : ℕ) (list : List Receipt) (told : List Told) : Type 0 where
+pub record IsCutShort (plan : Plan) (turns count : ℕ) (list : List Receipt) (others : List Told) : Type 0 where
   pub before : ℕ
   pub last : count ≡ before + 1
   pub within : count ≤ turns
-  pub follows : Follows items before list told OutOfTurns
+  pub follows : Follows plan before list others OutOfTurns

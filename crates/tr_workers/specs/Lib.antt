@@ -1,5 +1,9 @@
 pub mod Follows
+pub mod Private
 pub mod Runs
+pub mod Scripts
 pub mod Settled
 pub mod Tallies
 pub mod Turns
+pub mod Views
+pub mod Ways

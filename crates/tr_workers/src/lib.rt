@@ -2,6 +2,7 @@
 //! what the kernel holds.
 #![tactic(auto)]
 
+mod calls;
 mod ports;
 mod receipts;
 mod runs;
@@ -12,10 +13,11 @@ mod settling;
 mod teams;
 mod working;
 
+pub use calls::Calls;
 pub use ports::{Gate, Port, Told};
 pub use receipts::Receipts;
 pub use runs::{RunFault, run};
-pub use scripts::{Item, Script};
+pub use scripts::{Item, Plan, Repeat, Script, Served};
 pub use settling::{Unsettled, settle};
 pub use working::{Ended, Tally, work};
 

@@ -1,6 +1,7 @@
 ghost use Rattle.std.specs.Prelude.{◌≡◌, ◌<◌, ◌^◌, IfOk, length, map, sum_by, vec_len};
 ghost use Rattle.tr_hub.specs.Seats.{new_seat};
-ghost use Rattle.tr_workers.specs.Runs.{AreDone, IsDone, task, tasks};
+ghost use Rattle.tr_workers.specs.Private.{AreKept, task, tasks};
+ghost use Rattle.tr_workers.specs.Runs.{AreDone, IsDone};
 
 use crate::ports::{Gate, Port};
 use crate::receipts::Receipts;
@@ -21,17 +22,19 @@ struct Done<E: Parts, A: Parts> {
 }
 
 /// What the thread of a worker is to hand back.
-#[derive(Clone, Copy)]
-struct WorkOf<'a> {
+#[derive(Drop)]
+struct WorkOf<'a, G: Gate> {
+    gate: &'a G,
+    worker: usize,
     script: &'a Script,
     turns: u64,
 }
 
-impl<'a, E: Parts, A: Parts> Promise<Result<Done<E, A>, AllocError>> for WorkOf<'a> {
+impl<'a, E: Parts, A: Parts, G: Gate> Promise<Result<Done<E, A>, AllocError>> for WorkOf<'a, G> {
     ghost use Rattle.std.specs.Prelude.{◌≡◌, IfOk};
     ghost use Rattle.tr_workers.specs.Runs.{IsDone};
 
-    ghost kept_by = { λ p r. IfOk r (λ d. IsDone p.turns p.script.now d.receipts × (d.seat.entries ≡ d.receipts.entries) × (d.seat.accepted ≡ d.receipts.accepted)) };
+    ghost kept_by = { λ p r. IfOk r (λ d. IsDone (G.may_say p.gate.now p.worker) p.turns p.script.now d.receipts × (d.seat.entries ≡ d.receipts.entries) × (d.seat.accepted ≡ d.receipts.accepted)) };
 }
 
 /// All workers' seats after their work, and what they hand back, both in their order.
@@ -41,7 +44,7 @@ pub(crate) struct Team<E: Parts, A: Parts> {
     pub(crate) receipts: Vec<Receipts>,
 }
 
-/// The work of one worker at its seat.
+/// The work of one worker at its actor's seat.
 fn work_at<E: Parts, A: Parts, R: Wait, G: Gate>(
     rt: &R,
     alloc: Global,
@@ -52,13 +55,14 @@ fn work_at<E: Parts, A: Parts, R: Wait, G: Gate>(
     seat: Seat<E, A>,
     turns: u64,
 ) -> Result<Done<E, A>, AllocError>
+    requires actor { seat.actor ≡ script.now.actor }
     requires fresh { (seat.entries ≡ 0) × (seat.accepted ≡ 0) }
     requires turns { turns < 2 ^ 32 }
-    ensures done { IfOk result (λ d. IsDone turns script.now d.receipts) }
+    ensures done { IfOk result (λ d. IsDone (G.may_say gate.now worker) turns script.now d.receipts) }
     ensures shares { IfOk result (λ d. (d.seat.entries ≡ d.receipts.entries) × (d.seat.accepted ≡ d.receipts.accepted)) }
 {
     let mut port = SeatPort::new(alloc, rt, hub, seat);
-    let tally = work(worker, &mut port, gate, script, turns)?;
+    let tally = work(alloc, worker, &mut port, gate, script, turns)?;
     let (list, told) = port.hand_over();
     let receipts = Receipts {
         actor: script.actor,
@@ -75,7 +79,7 @@ fn work_at<E: Parts, A: Parts, R: Wait, G: Gate>(
     })
 }
 
-/// Starts a thread for each script.
+/// Starts a thread for each script, whose number is the worker's.
 fn start_all<
     's,
     'e: 's,
@@ -92,31 +96,38 @@ fn start_all<
     scripts: &'e [Script],
     mut seats: Vec<Seat<E, A>>,
     turns: u64,
-) -> Result<Vec<PromisedHandle<Result<Done<E, A>, AllocError>, WorkOf<'e>>>, AllocError>
+) -> Result<Vec<PromisedHandle<Result<Done<E, A>, AllocError>, WorkOf<'e, G>>>, AllocError>
     requires turns { turns < 2 ^ 32 }
     requires seats { seats.items ≡ map (λ s. new_seat s.actor) scripts.now }
-    ensures { IfOk result (λ handles. map (λ h. task h.promise.script.now h.promise.turns) handles.items ≡ tasks scripts.now turns) }
+    ensures tasks { IfOk result (λ handles. map (λ h. task h.promise.gate.now h.promise.worker h.promise.script.now h.promise.turns) handles.items ≡ tasks gate.now 0 scripts.now turns) }
+    ensures count { IfOk result (λ handles. vec_len handles ≡ length scripts.now) }
 {
     let mut handles = Vec::new(alloc);
     for worker in 0..scripts.len() {
         let script = &scripts[worker];
         let seat = seats.remove(0);
         let job = move || -> Result<Done<E, A>, AllocError>
-            requires { (seat.entries ≡ 0) × (seat.accepted ≡ 0) × (turns < 2 ^ 32) }
-            ensures { IfOk result (λ d. IsDone turns script.entry.now d.receipts × (d.seat.entries ≡ d.receipts.entries) × (d.seat.accepted ≡ d.receipts.accepted)) }
+            requires { (seat.actor ≡ script.now.actor) × (seat.entries ≡ 0) × (seat.accepted ≡ 0) × (turns < 2 ^ 32) }
+            ensures { IfOk result (λ d. IsDone (G.may_say gate.entry.now worker) turns script.entry.now d.receipts × (d.seat.entries ≡ d.receipts.entries) × (d.seat.accepted ≡ d.receipts.accepted)) }
         { work_at(rt, alloc, hub, gate, worker, script, seat, turns) };
-        handles.push(scope.spawn_with(WorkOf { script, turns }, job)?)?;
+        let promise = WorkOf {
+            gate,
+            worker,
+            script,
+            turns,
+        };
+        handles.push(scope.spawn_with(promise, job)?)?;
     }
     Ok(handles)
 }
 
 /// Joins all threads.
-fn join_all<'s, E: Parts + Send + Sync, A: Parts + Send + Sync, R: Threads>(
+fn join_all<'s, E: Parts + Send + Sync, A: Parts + Send + Sync, R: Threads, G: Gate + Sync>(
     rt: &R,
     alloc: Global,
-    handles: Vec<PromisedHandle<Result<Done<E, A>, AllocError>, WorkOf<'s>>>,
+    handles: Vec<PromisedHandle<Result<Done<E, A>, AllocError>, WorkOf<'s, G>>>,
 ) -> Result<Team<E, A>, AllocError>
-    ensures done { IfOk result (λ t. AreDone (map (λ h. task h.promise.script.now h.promise.turns) handles.entry.items) t.receipts.items) }
+    ensures done { IfOk result (λ t. AreKept G.may_say (map (λ h. task h.promise.gate.now h.promise.worker h.promise.script.now h.promise.turns) handles.entry.items) t.receipts.items) }
     ensures entries { IfOk result (λ t. sum_by (λ s. s.entries) t.seats.items ≡ sum_by (λ r. r.entries) t.receipts.items) }
     ensures accepted { IfOk result (λ t. sum_by (λ s. s.accepted) t.seats.items ≡ sum_by (λ r. r.accepted) t.receipts.items) }
     ensures seats { IfOk result (λ t. vec_len t.seats ≡ vec_len handles.entry) }
@@ -132,6 +143,7 @@ fn join_all<'s, E: Parts + Send + Sync, A: Parts + Send + Sync, R: Threads>(
 }
 
 /// The work of all workers, each on a thread of its own, until all are joined.
+#[tactic(auto, using(crate::proofs::Joins::all_done))]
 pub(crate) fn work_on_threads<
     E: Parts + Send + Sync,
     A: Parts + Send + Sync,
@@ -148,7 +160,7 @@ pub(crate) fn work_on_threads<
 ) -> Result<Team<E, A>, AllocError>
     requires turns { turns < 2 ^ 32 }
     requires seats { seats.items ≡ map (λ s. new_seat s.actor) scripts.now }
-    ensures done { IfOk result (λ t. AreDone (tasks scripts.now turns) t.receipts.items) }
+    ensures done { IfOk result (λ t. AreDone (G.may_say gate.now) turns 0 scripts.now t.receipts.items) }
     ensures entries { IfOk result (λ t. sum_by (λ s. s.entries) t.seats.items ≡ sum_by (λ r. r.entries) t.receipts.items) }
     ensures accepted { IfOk result (λ t. sum_by (λ s. s.accepted) t.seats.items ≡ sum_by (λ r. r.accepted) t.receipts.items) }
     ensures seats { IfOk result (λ t. vec_len t.seats ≡ length scripts.now) }
@@ -158,7 +170,7 @@ pub(crate) fn work_on_threads<
         rt,
         |scope| -> Result<Team<E, A>, AllocError>
             requires { (turns < 2 ^ 32) × (seats.items ≡ map (λ s. new_seat s.actor) scripts.now) }
-            ensures { IfOk result (λ t. AreDone (tasks scripts.entry.now turns) t.receipts.items
+            ensures { IfOk result (λ t. AreKept G.may_say (tasks gate.entry.now 0 scripts.entry.now turns) t.receipts.items
                 × (sum_by (λ s. s.entries) t.seats.items ≡ sum_by (λ r. r.entries) t.receipts.items)
                 × (sum_by (λ s. s.accepted) t.seats.items ≡ sum_by (λ r. r.accepted) t.receipts.items)
                 × (vec_len t.seats ≡ length scripts.entry.now)) }

@@ -1,12 +1,15 @@
 ghost use Rattle.std.specs.Prelude.{◌≡◌, ◌≤◌, ◌<◌, ◌^◌, IfOk, vec_len, length};
 
 mod gates;
+mod machines;
 mod memory;
 mod places;
+mod refused;
+mod turns;
 
 use super::*;
 use gates::{Meeting, Open, Second};
-use std::alloc::Global;
+use std::alloc::{AllocError, Global};
 use std::fmt::Debug;
 use std::process::Abort;
 use std::slice;
@@ -14,7 +17,7 @@ use std::sync::Wait;
 use std::test::Fail;
 use std::thread::Threads;
 use tr_model::Event;
-use tr_sigset::{SigSet, Signal};
+use tr_sigset::SigSet;
 use tr_table::{GroupStart, Items, Start};
 
 const KILL: Event = Event::Kill { tgid: 10, sig: 10 };
@@ -24,20 +27,20 @@ fn same<T: PartialEq + Debug>(rt: &impl Abort, value: &T, want: &T) {
     assert_eq!(rt; *value, *want);
 }
 
-fn item<T: Drop>(alloc: Global, item: T) -> Result<Items<T>, Fail> {
+fn item<T: Drop>(alloc: Global, item: T) -> Result<Items<T>, AllocError> {
     let mut items = Items::new(alloc);
     items.push(item)?;
     Ok(items)
 }
 
 /// One thread that blocks USR1.
-fn start(alloc: Global) -> Result<Start, Fail> {
-    let usr1 = Signal::new(10).ok_or("not a signal")?;
+fn start(alloc: Global) -> Result<Start, AllocError> {
+    let usr1 = SigSet::from_bits(1 << 9);
     let group = GroupStart {
         tgid: 10,
         name: Items::from_vec(Vec::from_array(alloc, *b"demo")?),
         actions: Items::new(alloc),
-        threads: item(alloc, (10, SigSet::empty().with(usr1)))?,
+        threads: item(alloc, (10, usr1))?,
     };
     Ok(Start {
         groups: item(alloc, group)?,
@@ -46,9 +49,19 @@ fn start(alloc: Global) -> Result<Start, Fail> {
     })
 }
 
-fn kills(alloc: Global, actor: u32, times: u32) -> Result<Script, Fail> {
-    let items = item(alloc, Item { event: KILL, times })?;
-    Ok(Script { actor, items })
+fn kills(alloc: Global, actor: u32, times: u32) -> Result<Script, AllocError> {
+    let repeat = Repeat::Times(times);
+    let items = item(
+        alloc,
+        Item {
+            event: KILL,
+            repeat,
+        },
+    )?;
+    Ok(Script {
+        actor,
+        plan: Plan::Items(items),
+    })
 }
 
 /// The scripts of two actors, 100 kills each.

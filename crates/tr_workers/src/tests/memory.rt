@@ -3,7 +3,7 @@ ghost use Rattle.std.specs.Prelude.{◌≡◌, ◌<◌, ◌^◌, []};
 use super::gates::Open;
 use super::{item, same};
 use crate::ports::{Port, Told, keep};
-use crate::scripts::{Item, Script};
+use crate::scripts::{Item, Plan, Repeat, Script};
 use crate::working::{Ended, Tally, work};
 use std::alloc::Global;
 use std::mem;
@@ -13,15 +13,15 @@ use tr_model::{Event, Refusal, Reply};
 
 /// A port in memory: by turns an entry that accepts two signals, a reply and a refusal.
 #[derive(Drop)]
-struct ByTurns {
+pub(super) struct ByTurns {
     alloc: Global,
-    calls: u64,
+    pub(super) calls: u64,
     receipts: Vec<Receipt>,
     told: Vec<Told>,
 }
 
 impl ByTurns {
-    fn new(alloc: Global) -> ByTurns
+    pub(super) fn new(alloc: Global) -> ByTurns
         ensures { (result.calls ≡ 0) × (result.receipts.items ≡ []) × (result.told.items ≡ []) }
     {
         ByTurns {
@@ -72,25 +72,35 @@ fn five(alloc: Global) -> Result<Script, Fail> {
         alloc,
         Item {
             event: Event::TracerExit,
-            times: 2,
+            repeat: Repeat::Times(2),
         },
     )?;
     items.push(Item {
         event: Event::Pause { tid: 10 },
-        times: 0,
+        repeat: Repeat::Times(0),
     })?;
     items.push(Item {
         event: Event::Take { tid: 10 },
-        times: 3,
+        repeat: Repeat::Times(3),
     })?;
-    Ok(Script { actor: 900, items })
+    Ok(Script {
+        actor: 900,
+        plan: Plan::Items(items),
+    })
 }
 
 /// What comes of five calls in so many turns.
 fn worked(alloc: Global, turns: u64) -> Result<Tally, Fail>
     requires { turns < 2 ^ 32 }
 {
-    Ok(work(0, &mut ByTurns::new(alloc), &Open, &five(alloc)?, turns)?)
+    Ok(work(
+        alloc,
+        0,
+        &mut ByTurns::new(alloc),
+        &Open,
+        &five(alloc)?,
+        turns,
+    )?)
 }
 
 #[test]
