@@ -12,6 +12,7 @@ use Rattle.tracebox.specs.declared.asking.Ask.{Ask}
 use Rattle.tracebox.specs.declared.asking.Ask.TheVariants.{Serial, Threads, Decode}
 use Rattle.tracebox.specs.declared.asking.AskFault.{AskFault}
 use Rattle.tracebox.specs.declared.asking.AskFault.TheVariants.{Help, Usage, NoMemory}
+use Rattle.tracebox.specs.declared.asking.Declined.{Declined}
 use Rattle.tracebox.specs.CommandLine.{tracebox}
 
 -- one to eight hexadecimal digits, and nothing else
@@ -62,6 +63,11 @@ HasTurns _ = Unit {0}
 abbrev pub asked_by : Option (Text × List Row) → Result Ask AskFault
 asked_by None = Err Usage
 asked_by (Some m) = named m.0 m.1
+
+-- an answer without its text
+abbrev pub answer_of : Result Ask Declined → Result Ask AskFault
+answer_of (Ok a) = Ok a
+answer_of (Err d) = Err d.fault
 
 -- what the matches of the words ask for, where clap takes the words; memory may be refused
 abbrev pub Answers : List Text → Result Ask AskFault → Type 0

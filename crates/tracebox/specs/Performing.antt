@@ -1,5 +1,5 @@
 -- What the program does of what it is asked for.
-use Rattle.std.specs.Prelude.{◌≡◌, ◌⊎◌, ℕ, List, Option, Some, None, Result, Ok, Err, IfErr, ⊤}
+use Rattle.std.specs.Prelude.{◌≡◌, ℕ, List, Option, Some, None, Result, Ok, Err, IfErr, ⊤}
 use Rattle.clap.specs.Words.{Text}
 use Rattle.tr_wait.specs.declared.status.Status.{Status}
 use Rattle.tr_wait.specs.declared.words.Word.{Word}
@@ -40,9 +40,15 @@ module _ {K : Type 0} (taken : K → List ℕ) (failures : K → ℕ) where
   abbrev pub Decodes : K → K → Word → Result ⊤ Fault → Type 0
   Decodes old new w r = (s : Option Status) × IsMeaning w.0 s × Means old new s r
 
-  -- some text is written, or memory is refused and nothing is
+  -- some text is written
   abbrev pub Helps : K → K → Result ⊤ Fault → Type 0
-  Helps old new r = ((text : Text) × Says old new text r) ⊎ ((r ≡ Err (Scenario scenario.NoMemory)) × (new ≡ old))
+  Helps old new r = (text : Text) × Says old new text r
+
+  -- help is written; any other fault of a command line is the program's, and nothing is written
+  abbrev pub Declines : AskFault → K → K → Result ⊤ Fault → Type 0
+  Declines asking.Help old new r = Helps old new r
+  Declines asking.Usage old new r = (new ≡ old) × (r ≡ Err Usage)
+  Declines asking.NoMemory old new r = (new ≡ old) × (r ≡ Err (Scenario scenario.NoMemory))
 
   -- the line of a fault is written, or a front of it and the sink fails
   abbrev pub Tells : K → K → Fault → Type 0
@@ -63,9 +69,7 @@ module _ {R W : Type 0} (shown : R → Shown) (taken : W → List ℕ) (failures
   Does (Ok Serial) r_old r_new w_old w_new result = (run : Result ⊤ ScenarioFault) × Runs (devices r_old w_old) (devices r_new w_new) run × (result ≡ run_result run)
   Does (Ok (Threads turns)) r_old r_new w_old w_new result = (run : Result ⊤ ScenarioFault) × RunsThreaded (devices r_old w_old) (devices r_new w_new) turns run × (result ≡ run_result run)
   Does (Ok (Decode w)) r_old r_new w_old w_new result = (r_new ≡ r_old) × Decodes taken failures w_old w_new w result
-  Does (Err asking.Help) r_old r_new w_old w_new result = (r_new ≡ r_old) × Helps taken failures w_old w_new result
-  Does (Err asking.Usage) r_old r_new w_old w_new result = (r_new ≡ r_old) × (w_new ≡ w_old) × (result ≡ Err Usage)
-  Does (Err asking.NoMemory) r_old r_new w_old w_new result = (r_new ≡ r_old) × (w_new ≡ w_old) × (result ≡ Err (Scenario scenario.NoMemory))
+  Does (Err fault) r_old r_new w_old w_new result = (r_new ≡ r_old) × Declines taken failures fault w_old w_new result
 
   -- what the words ask for is done
   abbrev pub Attempts : List Text → R → R → W → W → Result ⊤ Fault → Type 0

@@ -1,11 +1,12 @@
-ghost use Rattle.std.specs.Prelude.{◌≡◌, IfOk, map, option_map};
-ghost use Rattle.clap.specs.Words.{first_of, found_of, rows_of, subcommand_rows_of};
-ghost use Rattle.tracebox.specs.Asks.{Answers, Blames, HasTurns, asked_by, fault_at, named, turns_asked, word_asked};
+ghost use Rattle.std.specs.Prelude.{◌≡◌, ◌⊎◌, IfOk, map, option_map};
+ghost use Rattle.clap.specs.Words.{first_of, found_of, kind_of, rows_of, subcommand_rows_of};
+ghost use Rattle.tracebox.specs.declared.asking.AskFault.TheVariants.{NoMemory};
+ghost use Rattle.tracebox.specs.Asks.{Answers, Blames, HasTurns, answer_of, asked_by, fault_at, named, turns_asked, word_asked};
 
 use crate::commands::command;
 use crate::numerals::{hexadecimal, turns};
-use clap::ArgMatches;
 use clap::error::ErrorKind;
+use clap::{ArgMatches, Error};
 use std::alloc::{AllocError, Global};
 use std::convert::AsStr;
 use tr_wait::Word;
@@ -32,29 +33,54 @@ pub enum AskFault {
     NoMemory,
 }
 
+/// A command line that asks for nothing.
+#[derive(Drop)]
+pub struct Declined {
+    pub fault: AskFault,
+    /// The help or the version that it wants; empty at another fault.
+    pub text: String,
+}
+
 /// What the words of a command line ask for, of which the first is the program's name: `serial`; `threads`, with the
 /// turns of each worker, 100,000 where none are given; or `decode` and a word of 1 to 8 hexadecimal digits of either case
 /// without a prefix. `Usage` for a word of another form. Where `clap` doesn't take the words, `Help` if they want help or
-/// the version, else `Usage`. `NoMemory` where memory is refused.
-pub fn asked<'a, S: AsStr>(alloc: Global, words: &'a [S]) -> Result<Ask, AskFault>
-    ensures answers { Answers (map S.text words.entry.now) result }
-    ensures blames { Blames (map S.text words.entry.now) result }
+/// the version, with that text, else `Usage`. `NoMemory` where memory is refused, also to that text.
+pub fn asked<'a, S: AsStr>(alloc: Global, words: &'a [S]) -> Result<Ask, Declined>
+    ensures answers { Answers (map S.text words.entry.now) (answer_of result) }
+    ensures blames { Blames (map S.text words.entry.now) (answer_of result) }
     ensures turns { IfOk result HasTurns }
 {
     let Ok(command) = command(alloc) else {
-        return Err(AskFault::NoMemory);
+        return Err(without_text(alloc, AskFault::NoMemory));
     };
     match command.try_get_matches_from(words) {
-        Ok(matches) => ask_of(&matches),
-        Err(error) => Err(fault_at(error.kind())),
+        Ok(matches) => ask_of(alloc, &matches),
+        Err(error) => Err(declined_by(alloc, &error)),
     }
 }
 
-/// The help or the version that the words want. Where they want neither, what `clap` says of them; empty where it takes them.
-pub fn help<'a, S: AsStr>(alloc: Global, words: &'a [S]) -> Result<String, AllocError> {
-    match command(alloc)?.try_get_matches_from(words) {
-        Ok(_) => Ok(String::new(alloc)),
-        Err(error) => error.to_string(alloc),
+fn without_text(alloc: Global, fault: AskFault) -> Declined
+    ensures { result.fault ≡ fault }
+{
+    Declined {
+        fault,
+        text: String::new(alloc),
+    }
+}
+
+/// What an error of `clap` comes to, with its text where that is help or the version.
+fn declined_by(alloc: Global, error: &Error) -> Declined
+    ensures { (result.fault ≡ NoMemory) ⊎ (result.fault ≡ fault_at (kind_of error.now)) }
+{
+    match fault_at(error.kind()) {
+        AskFault::Help => match error.to_string(alloc) {
+            Ok(text) => Declined {
+                fault: AskFault::Help,
+                text,
+            },
+            Err(AllocError) => without_text(alloc, AskFault::NoMemory),
+        },
+        fault => without_text(alloc, fault),
     }
 }
 
@@ -68,7 +94,17 @@ fn fault_at(kind: ErrorKind) -> AskFault
     }
 }
 
-fn ask_of(matches: &ArgMatches<'_>) -> Result<Ask, AskFault>
+fn ask_of(alloc: Global, matches: &ArgMatches<'_>) -> Result<Ask, Declined>
+    ensures asked { answer_of result ≡ asked_by (subcommand_rows_of matches.now) }
+    ensures turns { IfOk result HasTurns }
+{
+    match subcommand_ask(matches) {
+        Ok(ask) => Ok(ask),
+        Err(fault) => Err(without_text(alloc, fault)),
+    }
+}
+
+fn subcommand_ask(matches: &ArgMatches<'_>) -> Result<Ask, AskFault>
     ensures asked { result ≡ asked_by (subcommand_rows_of matches.now) }
     ensures turns { IfOk result HasTurns }
 {

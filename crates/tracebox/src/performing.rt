@@ -1,8 +1,8 @@
 ghost use Rattle.std.specs.Prelude.{◌≡◌, ◌+◌, ◌<◌, ◌-◌, ◌^◌, map};
 ghost use Rattle.tracebox.specs.Faults.{fault_status};
-ghost use Rattle.tracebox.specs.Performing.{Attempts, Decodes, Helps, Performs, Says, Tells};
+ghost use Rattle.tracebox.specs.Performing.{Attempts, Declines, Decodes, Performs, Says, Tells};
 
-use crate::asking::{Ask, AskFault, asked, help};
+use crate::asking::{Ask, AskFault, Declined, asked};
 use crate::faults::Fault;
 use crate::meanings::{put_line, write_meaning};
 use std::alloc::Global;
@@ -62,9 +62,7 @@ fn attempt<T: Threads + Wait + Sync, S: AsStr, R: Source, W: Sink>(
         Ok(Ask::Serial) => Ok(serial(alloc, reader, writer)?),
         Ok(Ask::Threads(turns)) => Ok(threaded(rt, alloc, reader, writer, turns)?),
         Ok(Ask::Decode(word)) => write_decoded(word, writer),
-        Err(AskFault::Help) => write_help(alloc, words, writer),
-        Err(AskFault::Usage) => Err(Fault::Usage),
-        Err(AskFault::NoMemory) => Err(Fault::Scenario(ScenarioFault::NoMemory)),
+        Err(declined) => write_declined(&declined, writer),
     }
 }
 
@@ -79,13 +77,16 @@ fn write_decoded<W: Sink>(word: Word, writer: &mut W) -> Result<(), Fault>
     }
 }
 
-/// Writes the help that the words want.
-fn write_help<S: AsStr, W: Sink>(alloc: Global, words: &[S], writer: &mut W) -> Result<(), Fault>
+/// Writes the help that is wanted; any other fault is the program's.
+fn write_declined<W: Sink>(declined: &Declined, writer: &mut W) -> Result<(), Fault>
     requires { W.failures writer.old < 2 ^ 64 - 1 }
-    ensures { Helps W.taken W.failures writer.old writer.new result }
+    ensures { Declines W.taken W.failures declined.now.fault writer.old writer.new result }
 {
-    let text = help(alloc, words)?;
-    write_text(&text, writer)
+    match declined.fault {
+        AskFault::Help => write_text(&declined.text, writer),
+        AskFault::Usage => Err(Fault::Usage),
+        AskFault::NoMemory => Err(Fault::Scenario(ScenarioFault::NoMemory)),
+    }
 }
 
 fn write_text<W: Sink>(text: &str, writer: &mut W) -> Result<(), Fault>

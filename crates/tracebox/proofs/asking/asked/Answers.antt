@@ -1,6 +1,6 @@
-use Rattle.std.proofs.Common.{◌∙◌, ◌≡◌, ap, sym, inl, map, true}
+use Rattle.std.proofs.Common.{◌∙◌, ◌≡◌, ap, sym, inl, inr, map, true}
 use Rattle.clap.specs.Words.{App, app_of, fault_of, is_simple_and_free, takes}
-use Rattle.tracebox.specs.Asks.{fault_at}
+use Rattle.tracebox.specs.Asks.{answer_of, fault_at}
 use Rattle.tracebox.specs.CommandLine.{tracebox}
 use Rattle.tracebox.proofs.Refusals.{refused, simple, taken}
 use Rattle.tracebox.proofs.asking.asked.Goals as goal
@@ -10,17 +10,23 @@ returns-in-Ok-try_get_matches_from-clause-blames g c =
     let words = map g.S.AsStr.text c.args.words.now in
     let same : app_of c.in-Ok.command ≡ tracebox = c.in-Ok.ensures in
     let free : is_simple_and_free (app_of c.in-Ok.command) ≡ true = ap is_simple_and_free same ∙ simple in
-    taken words c.ask_of.result (sym (ap (λ (a : App). fault_of a words) same) ∙ c.in-Ok-try_get_matches_from.ensures.kinds free)
+    taken words (answer_of c.ask_of.result) (sym (ap (λ (a : App). fault_of a words) same) ∙ c.in-Ok-try_get_matches_from.ensures.kinds free)
 
 pub returns-in-Err-clause-answers : goal.returns-in-Err-clause-answers
 returns-in-Err-clause-answers g c =
     let words = map g.S.AsStr.text c.args.words.now in
     let same : app_of c.in-Ok.command ≡ tracebox = c.in-Ok.ensures in
-    λ (fits : takes tracebox words ≡ true). inl (c.fault_at.ensures ∙ ap fault_at (c.kind.ensures ∙ c.in-Err.ensures.passes (ap (λ (a : App). takes a words) same ∙ fits)))
+    λ (fits : takes tracebox words ≡ true). elim c.declined_by.ensures [
+      | inl memory ↦ inl memory
+      | inr is ↦ inl (is ∙ ap fault_at (c.in-Err.ensures.passes (ap (λ (a : App). takes a words) same ∙ fits)))
+    ]
 
 pub returns-in-Err-clause-blames : goal.returns-in-Err-clause-blames
 returns-in-Err-clause-blames g c =
     let words = map g.S.AsStr.text c.args.words.now in
     let same : app_of c.in-Ok.command ≡ tracebox = c.in-Ok.ensures in
     let free : is_simple_and_free (app_of c.in-Ok.command) ≡ true = ap is_simple_and_free same ∙ simple in
-    refused (app_of c.in-Ok.command) words c.in-Err.error c.fault_at.result same (c.fault_at.ensures ∙ ap fault_at c.kind.ensures) (c.in-Err.ensures.kinds free)
+    elim c.declined_by.ensures [
+      | inl memory ↦ inl memory
+      | inr is ↦ refused (app_of c.in-Ok.command) words c.in-Err.error c.declined_by.result.fault same is (c.in-Err.ensures.kinds free)
+    ]
