@@ -18,6 +18,16 @@ pub record HeldState : Type 0 where
   pub kernel : State
   pub asked : List Asked
 
+-- what lies behind the lock: what it keeps, and for how many answers more there is room
+pub record Locked : Type 0 where
+  pub kernel : State
+  pub asked : List Asked
+  pub room : ℕ
+
+-- what of it is kept
+abbrev pub kept_in : Locked → HeldState
+kept_in l = record { kernel = l.kernel; asked = l.asked }
+
 -- the model refuses so, on this table and after so many entries
 abbrev pub Refuses : Table → ℕ → ℕ → Event → Refusal → Type 0
 Refuses T position actor event JournalFull = (cause_of T actor event ≡ None) × (quiet_of T actor event ≡ None) × (position ≡ T.entries)

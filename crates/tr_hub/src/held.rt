@@ -1,8 +1,10 @@
-ghost use Rattle.std.specs.Prelude.{◌≡◌, ◌≢◌, ◌<◌, [], length};
+ghost use Rattle.std.specs.Prelude.{◌≡◌, ◌≢◌, ◌<◌, ◌⊎◌, [], length};
+ghost use Rattle.tr_model.specs.declared.replies.Refusal.TheVariants.{NoMemory};
+ghost use Rattle.tr_kernel.specs.declared.answers.Answer.TheVariants.{Refused};
 ghost use Rattle.tr_kernel.specs.Answers.{IfEntered, IfRead, IfRefused, IsReceipt};
 ghost use Rattle.tr_kernel.specs.States.{IsEntered, IsQuiet, IsRefusal};
 ghost use Rattle.tr_hub.specs.Answers.{asked_after};
-ghost use Rattle.tr_hub.specs.Kept.{IsKept};
+ghost use Rattle.tr_hub.specs.Kept.{IsKept, kept_in};
 ghost use Rattle.tr_hub.specs.Seats.{seat_after};
 
 use crate::answers::{Asked, keep};
@@ -25,12 +27,12 @@ pub struct Held<E: Parts, A: Parts> {
 }
 
 impl<E: Parts, A: Parts> Model for Held<E, A> {
-    ghost use Rattle.std.specs.Prelude.{◌≡◌, length};
-    ghost use Rattle.tr_hub.specs.Kept.{HeldState, IsKept};
+    ghost use Rattle.std.specs.Prelude.{◌≡◌, ◌-◌, length, vec_capacity, vec_len};
+    ghost use Rattle.tr_hub.specs.Kept.{IsKept, Locked};
 
-    ghost Value = { HeldState };
+    ghost Value = { Locked };
 
-    ghost view = { λ h. record { kernel = h.kernel; asked = h.asked.items } };
+    ghost view = { λ h. record { kernel = h.kernel; asked = h.asked.items; room = vec_capacity h.asked - vec_len h.asked } };
 
     ghost invariant = { λ h.
         IsKept (record { kernel = h.kernel; asked = h.asked.items })
@@ -97,9 +99,10 @@ impl<E: Parts, A: Parts> Held<E, A> {
 
     /// One event of a seat's actor: what each call of a hub does under the lock.
     ///
-    /// `Refused(NoMemory)` comes where room for the answer was refused, or as from `Kernel::step`; then nothing has
-    /// changed. Every other answer is the kernel's: an entry with its receipt, which is added to the seat, or a reply or
-    /// refusal that the model gives on the table held, which is written down at the journal's length.
+    /// `Refused(NoMemory)` comes where there was no room for the answer and more was refused, or as from `Kernel::call`; then
+    /// nothing has changed but the seat's number of calls. Every other answer is the kernel's: an entry with its receipt,
+    /// which is added to the seat, or a reply or refusal that the model gives on the table held, which is written down at the
+    /// journal's length.
     pub fn step(&mut self, seat: &mut Seat<E, A>, event: Event) -> Answer
         ensures seat { seat.new ≡ seat_after seat.old result }
         ensures asked { self.new.asked ≡ asked_after self.old.asked seat.old.actor event (length self.old.kernel.journal) result }
@@ -108,11 +111,14 @@ impl<E: Parts, A: Parts> Held<E, A> {
         ensures receipt { IfEntered result (λ r. IsReceipt r event self.old.kernel self.new.kernel) }
         ensures read { IfRead result (λ reply. IsQuiet self.old.kernel seat.old.actor event reply self.new.kernel) }
         ensures refused { IfRefused result (λ why. why ≢ Refusal.NoMemory → IsRefusal self.old.kernel seat.old.actor event why) }
+        ensures memory { result ≡ Refused NoMemory → (self.old.room ≡ 0) ⊎ IsRefusal self.old.kernel seat.old.actor event NoMemory }
         ensures unchanged { IfRefused result (λ _. self.new.kernel ≡ self.old.kernel) }
-        ensures kept { IsKept self.new }
+        ensures kept { IsKept (kept_in self.new) }
     {
         if self.asked.reserve(1).is_err() {
-            return Answer::Refused(Refusal::NoMemory);
+            let answer = Answer::Refused(Refusal::NoMemory);
+            seat.add(&mut self.books, &answer);
+            return answer;
         }
         let actor = seat.actor();
         let position = self.kernel.journal().len() as u64;
@@ -120,5 +126,13 @@ impl<E: Parts, A: Parts> Held<E, A> {
         keep(&mut self.asked, actor, &event, position, &answer);
         seat.add(&mut self.books, &answer);
         answer
+    }
+}
+
+#[cfg(test)]
+impl<E: Parts, A: Parts> Held<E, A> {
+    /// How many answers without an entry there were so far.
+    pub(crate) fn asked_count(&self) -> usize {
+        self.asked.len()
     }
 }

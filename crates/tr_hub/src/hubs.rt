@@ -2,7 +2,7 @@ ghost use Rattle.std.specs.Prelude.{◌≡◌, ℕ, ◌≤◌, ◌<◌, ◌+◌,
 ghost use Rattle.tr_kernel.specs.Answers.{IfEntered, IfRead};
 ghost use Rattle.tr_hub.specs.Answers.{is_kept};
 ghost use Rattle.tr_hub.specs.Kept.{IsKept, IsPossible};
-ghost use Rattle.tr_hub.specs.Seats.{HasRepeat, event_of, new_seat, seat_after};
+ghost use Rattle.tr_hub.specs.Seats.{HasRepeat, HasTried, event_of, new_seat, seat_after};
 
 use crate::answers::Asked;
 use crate::held::{Held, Opened};
@@ -83,8 +83,8 @@ impl<E: Parts, A: Parts> Hub<E, A> {
 
     /// One event of a seat's actor, by `Held::step` under the lock, which is held for that step alone.
     ///
-    /// An entry adds one, and the signals that it accepted, to the seat, and wakes all that wait; after any other answer the
-    /// seat is as before. A reply, or a refusal but for want of memory, is one that some kernel gives. That it is of this
+    /// The seat counts the call. An entry adds one, and the signals that it accepted, to the seat, and wakes all that wait; any
+    /// other answer adds nothing else. A reply, or a refusal but for want of memory, is one that some kernel gives. That it is of this
     /// kernel, and that the entry behind a receipt is the receipt's, no clause here can say: tests show it, and of many calls
     /// the sums at `close`.
     pub fn call<R: Wait>(&self, rt: &R, seat: &mut Seat<E, A>, event: Event) -> Answer
@@ -102,7 +102,8 @@ impl<E: Parts, A: Parts> Hub<E, A> {
     /// Tries a wait at most `turns` times, and waits for another entry between two tries; the first answer that isn't
     /// `Nothing`, or the last one. With 0 turns that is `Nothing`.
     ///
-    /// A try is a `call`, but that the lock is held from the try until it waits. That a waiter wakes only tests show.
+    /// A try is a `call`, but that the lock is held from the try until it waits; the seat counts each. That the answers before
+    /// the last were `Nothing`, and that a waiter waits and wakes, only tests show.
     pub fn wait_for<R: Wait>(
         &self,
         rt: &R,
@@ -110,7 +111,7 @@ impl<E: Parts, A: Parts> Hub<E, A> {
         what: WaitCall,
         turns: u64,
     ) -> Answer
-        ensures seat { seat.new ≡ seat_after seat.old result }
+        ensures tried { HasTried turns seat.old seat.new result }
         ensures receipt { IfEntered result (λ r. (r.event ≡ event_of what) × (r.accepted ≤ 1024)) }
         ensures read { IfRead result (λ reply. reply ≡ Reply.Nothing) }
         ensures possible { 0 < turns → IsTrue (is_kept result) → IsPossible seat.old.actor (event_of what) result }
@@ -124,13 +125,13 @@ impl<E: Parts, A: Parts> Hub<E, A> {
             }
             let answer = guard.step(seat, event);
             match &answer {
-                Answer::Read(Reply::Nothing) => {}
+                Answer::Read(_) => {}
+                Answer::Refused(_) => return answer,
                 Answer::Entered(_) => {
                     drop(guard);
                     self.changed.notify_all();
                     return answer;
                 }
-                _ => return answer,
             }
         }
         Answer::Read(Reply::Nothing)
@@ -166,5 +167,13 @@ impl<E: Parts, A: Parts> Hub<E, A> {
         let mut shares = gathered(seats, own);
         books.audit(&mut shares);
         Ok((kernel, asked))
+    }
+}
+
+#[cfg(test)]
+impl<E: Parts, A: Parts> Hub<E, A> {
+    /// How many answers without an entry there were so far.
+    pub(crate) fn asked<R: Wait>(&self, rt: &R) -> usize {
+        self.held.lock(rt).asked_count()
     }
 }

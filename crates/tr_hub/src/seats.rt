@@ -7,11 +7,12 @@ use std::alloc::{AllocError, Global};
 use std::marker::Model;
 use tr_kernel::Answer;
 
-/// The right of one actor to call a hub, and the account of what was entered from it. Contracts see it as its actor, its
-/// number of entries, and the number of signals that these accepted.
+/// The right of one actor to call a hub, and the account of what was called and entered from it. Contracts see it as its
+/// actor, its numbers of calls and of entries, and the number of signals that these accepted.
 #[derive(Drop)]
 pub struct Seat<E: Parts, A: Parts> {
     actor: u32,
+    calls: u64,
     shares: Shares<E, A>,
 }
 
@@ -21,7 +22,7 @@ impl<E: Parts, A: Parts> Model for Seat<E, A> {
 
     ghost Value = { SeatState };
 
-    ghost view = { λ s. record { actor = s.actor; entries = s.shares.entries.amount; accepted = s.shares.accepted.amount } };
+    ghost view = { λ s. record { actor = s.actor; calls = s.calls; entries = s.shares.entries.amount; accepted = s.shares.accepted.amount } };
 
     ghost invariant = { λ s. (s.shares.entries.parts ≡ 1) × (s.shares.accepted.parts ≡ 1) };
 }
@@ -30,9 +31,13 @@ impl<E: Parts, A: Parts> Seat<E, A> {
     /// A seat with one part of each ledger.
     pub(crate) fn new(actor: u32, shares: Shares<E, A>) -> Seat<E, A>
         requires { (shares.entries.parts ≡ 1) × (shares.accepted.parts ≡ 1) }
-        ensures { result ≡ record { actor = actor; entries = shares.entries.amount; accepted = shares.accepted.amount } }
+        ensures { result ≡ record { actor = actor; calls = 0; entries = shares.entries.amount; accepted = shares.accepted.amount } }
     {
-        Seat { actor, shares }
+        Seat {
+            actor,
+            calls: 0,
+            shares,
+        }
     }
 
     /// Whose calls are made from it.
@@ -42,12 +47,20 @@ impl<E: Parts, A: Parts> Seat<E, A> {
         self.actor
     }
 
-    /// Writes an answer down in the books and in the seat's own shares.
+    /// How many calls were made from it, of whatever answer; all numbers from 2^64 - 1 up are told as that one.
+    pub fn calls(&self) -> u64
+        ensures { result ≡ self.now.calls }
+    {
+        self.calls
+    }
+
+    /// Counts a call, and writes its answer down in the books and in the seat's own shares.
     pub(crate) fn add(&mut self, books: &mut Books<E, A>, answer: &Answer)
         ensures seat { self.new ≡ seat_after self.old answer.now }
         ensures entries { books.new.entries.total ≡ books.old.entries.total + entries_in answer.now }
         ensures accepted { books.new.accepted.total ≡ books.old.accepted.total + accepted_in answer.now }
     {
+        self.calls = self.calls.saturating_add(1);
         books.add(&mut self.shares, answer);
     }
 
@@ -59,6 +72,7 @@ impl<E: Parts, A: Parts> Seat<E, A> {
     {
         let Seat {
             actor: _,
+            calls: _,
             shares: mine,
         } = self;
         shares.merge(mine);

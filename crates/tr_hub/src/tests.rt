@@ -1,4 +1,4 @@
-ghost use Rattle.std.specs.Prelude.{◌≡◌, ◌+◌, [], length, IfOk};
+ghost use Rattle.std.specs.Prelude.{◌≡◌, ◌+◌, ◌≤◌, [], length, IfOk};
 
 mod calls;
 mod ends;
@@ -58,12 +58,16 @@ fn kernel(alloc: Global) -> Result<Kernel, Fail>
 enum Trial {
     /// That there is none.
     Refused,
-    /// That it closes with both seats, and not with one.
+    /// That it closes with all seats and not with fewer, and keeps what it had.
     Closed,
     /// Waits that find nothing.
     Tried,
     /// A wait in one thread, and what it waits for in another.
     Waited,
+    /// Two waits at once, and one entry.
+    Woken,
+    /// A wait that another wait's entry ends.
+    Handed,
     /// Calls, one after another.
     Called(&'static [calls::Turn]),
 }
@@ -89,9 +93,8 @@ fn at<E: Parts + Send + Sync, A: Parts + Send + Sync, R: Threads + Wait + Abort 
 ) -> Result<(), Fail>
     requires empty { kernel.journal ≡ [] }
     requires start { kernel.start ≡ E.opening }
-    requires two { length actors.now ≡ 2 }
-    requires entries { (entries.name ≡ E.name) × (entries.parts ≡ E.parts) × (E.all ≡ E.parts) × (E.all ≡ 3) }
-    requires accepted { (accepted.name ≡ A.name) × (accepted.parts ≡ A.parts) × (A.all ≡ A.parts) × (A.all ≡ 3) }
+    requires entries { (entries.name ≡ E.name) × (entries.parts ≡ E.parts) × (E.all ≡ E.parts) × (E.all ≡ length actors.now + 1) }
+    requires accepted { (accepted.name ≡ A.name) × (accepted.parts ≡ A.parts) × (A.all ≡ A.parts) × (A.all ≡ length actors.now + 1) }
 {
     let hub = Hub::<E, A>::new(alloc, entries, accepted, kernel, actors);
     let (hub, seats) = match hub {
@@ -103,6 +106,8 @@ fn at<E: Parts + Send + Sync, A: Parts + Send + Sync, R: Threads + Wait + Abort 
         Trial::Closed => ends::close(rt, hub, seats),
         Trial::Tried => waits::try_waits(rt, &hub, seats),
         Trial::Waited => waits::wait_for_another(rt, &hub, seats),
+        Trial::Woken => waits::wait_at_once(rt, &hub, seats),
+        Trial::Handed => waits::wait_for_a_wait(rt, &hub, seats),
         Trial::Called(turns) => calls::call_all(rt, hub, seats, actors, turns),
     }
 }
@@ -113,14 +118,15 @@ fn at_brand<R: Threads + Wait + Abort + Sync>(
     actors: &[u32],
     trial: Trial,
 ) -> Result<(), Fail>
-    requires { length actors.now ≡ 2 }
+    requires { length actors.now ≤ 64 }
 {
     let kernel = kernel(alloc)?;
+    let parts = actors.len() as u64 + 1;
     at::<Brand, Brand, _>(
         rt,
         alloc,
-        Blank::new(3),
-        Blank::new(3),
+        Blank::new(parts),
+        Blank::new(parts),
         kernel,
         actors,
         trial,
@@ -145,6 +151,16 @@ fn wait_ends_after_its_turns(rt: HostRuntime) -> Result<(), Fail> {
 #[test]
 fn waiter_wakes_when_another_thread_stops_the_tracee(rt: HostRuntime) -> Result<(), Fail> {
     at_brand(&rt, rt.alloc(), &[900, 10], Trial::Waited)
+}
+
+#[test]
+fn one_entry_wakes_all_that_wait(rt: HostRuntime) -> Result<(), Fail> {
+    at_brand(&rt, rt.alloc(), &[900, 1, 901], Trial::Woken)
+}
+
+#[test]
+fn starter_wakes_when_the_tracer_has_waited(rt: HostRuntime) -> Result<(), Fail> {
+    at_brand(&rt, rt.alloc(), &[900, 1], Trial::Handed)
 }
 
 #[test]

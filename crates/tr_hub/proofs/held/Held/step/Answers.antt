@@ -15,7 +15,7 @@ invariant_of-self-2 g c =
     let entries = entries_booked h.kernel actor event answer new e.entered e.read e.unchanged in
     let accepted = accepted_booked h.kernel actor event answer new e.receipt e.read e.unchanged in
     rw (c.keep.ensures, c.reserve.ensures.items, c.journal.ensures.entries)
-    (kept_after h actor event answer new i.0 e.history e.entered e.room e.read e.refused e.unchanged, omega (arith, c.add.ensures.entries), omega (arith, c.add.ensures.accepted), i.3, i.4, i.5, i.6, start_kept h.kernel actor event answer new e.entered e.read e.unchanged ∙ i.7)
+    (kept_after h actor event answer new i.0 e.history e.entered e.room e.read e.refused e.unchanged, omega (arith, c.add-2.ensures.entries), omega (arith, c.add-2.ensures.accepted), i.3, i.4, i.5, i.6, start_kept h.kernel actor event answer new e.entered e.read e.unchanged ∙ i.7)
 
 pub returns-clause-kept : goal.returns-clause-kept
 returns-clause-kept g c =
