@@ -1,6 +1,8 @@
 pub mod GoodStarts
+pub mod GroupLists
 pub mod Helds
 pub mod Ids
+pub mod Indexing
 pub mod Keeping
 pub mod Orders
 pub mod Places

@@ -1,12 +1,16 @@
 -- The place of the first thread or group with an id.
-use Rattle.std.proofs.Common.{◌≡◌, ◌+◌, ◌<◌, ◌≤◌, ◌==◌, ℕ, suc, Bool, true, false, List, [], ◌∷◌, Option, Some, None, cond, length, get_or, remove, set, nat_lt, if◌then◌else◌, arith, ap, refl, sym, subst}
+use Rattle.std.proofs.Common.{◌≡◌, ◌+◌, ◌<◌, ◌≤◌, ◌==◌, ℕ, suc, Bool, true, false, List, [], ◌∷◌, Option, Some, None, cond, length, get_or, remove, set, nat_lt, if◌then◌else◌, arith, ap, refl, sym, subst, map, ◌∙◌}
 use Rattle.std.specs.List.{position, position_or_len}
+use Rattle.std.proofs.lemmas.Bool.{eqb-true}
 use Rattle.std.proofs.lemmas.Bool.Decides.{nat_tests}
+use Rattle.std.proofs.lemmas.List.{length-map}
+use Rattle.std.specs.Prelude.{slice_get}
 use Rattle.std.proofs.lemmas.List.Recursion.{is_position_or_len}
 use Rattle.tr_tracee.specs.declared.thread.Thread.{Thread}
 use Rattle.tr_model.specs.declared.rows.Group.{Group}
 use Rattle.tr_model.specs.Moves.{changed, dropped, group_changed}
-use Rattle.tr_table.specs.Private.{IsGroupPlace, IsPlace}
+use Rattle.tr_model.specs.Tables.{group_in}
+use Rattle.tr_table.specs.Private.{IsGroupPlace, IsPlace, tgids_of}
 
 below : (m n : ℕ) → nat_lt m n ≡ true → m < n
 below m n h = grind (arith, nat_tests)
@@ -64,6 +68,20 @@ module _ (id : ℕ) where
   pub is_place : (ts : List Thread) (r : Option ℕ) → r ≡ position (λ t. t.id == id) ts → IsPlace id ts r
   is_place ts r e = subst (IsPlace id ts) (sym e) (by_place (λ t. t.id == id) ts (IsPlace id ts) (λ h. (h, λ f d y k. rw k (written f d ts), closed ts)) (nowhere ts))
 
+-- the place of a record is that of its id
+pub position_mapped : {X : Type 0} (p : ℕ → Bool) (f : X → ℕ) (xs : List X) → position p (map f xs) ≡ position (λ x. p (f x)) xs
+position_mapped {X = X} p f xs =
+    by_first p (map f xs) ∙ ap (λ (n : ℕ). cond (nat_lt n (length (map f xs))) (Some n) None) (go xs)
+    ∙ ap (λ (n : ℕ). cond (nat_lt (first (λ x. p (f x)) xs) n) (Some (first (λ x. p (f x)) xs)) None) (length-map xs f)
+    ∙ sym (by_first (λ x. p (f x)) xs)
+  where
+    by_first : {Y : Type 0} (q : Y → Bool) (ys : List Y) → position q ys ≡ cond (nat_lt (first q ys) (length ys)) (Some (first q ys)) None
+    by_first q ys = ap (λ (n : ℕ). cond (nat_lt n (length ys)) (Some n) None) (sym (first_is q ys))
+
+    go : (ys : List X) → first p (map f ys) ≡ first (λ x. p (f x)) ys
+    go [] = refl
+    go (y ∷ ys) = ap (λ (n : ℕ). if p (f y) then 0 else suc n) (go ys)
+
 module _ (g : ℕ) where
   group_written : (f : Group → Group) (d : Group) (xs : List Group) → set xs (first (λ x. x.tgid == g) xs) (f (get_or xs (first (λ x. x.tgid == g) xs) d)) ≡ group_changed g f xs
   group_written f d [] = refl
@@ -74,14 +92,29 @@ module _ (g : ℕ) where
       go true h = refl
       go false h = ap (λ us. x ∷ us) h
 
-  no_group : (xs : List Group) → length xs ≤ first (λ x. x.tgid == g) xs → (f : Group → Group) → group_changed g f xs ≡ xs
-  no_group [] h f = refl
-  no_group (x ∷ xs) h f = go (x.tgid == g) h (no_group xs)
+  group_there : (xs : List Group) → first (λ x. x.tgid == g) xs < length xs → (group_in xs g ≡ slice_get xs (first (λ x. x.tgid == g) xs)) × ((d : Group) → (get_or xs (first (λ x. x.tgid == g) xs) d).tgid ≡ g)
+  group_there [] h = absurd (omega (arith, h))
+  group_there (x ∷ xs) h = go (x.tgid == g) refl h (group_there xs)
     where
-      go : (b : Bool) → suc (length xs) ≤ (if b then 0 else suc (first (λ x. x.tgid == g) xs)) → (length xs ≤ first (λ x. x.tgid == g) xs → (f : Group → Group) → group_changed g f xs ≡ xs)
-          → (if b then f x ∷ xs else x ∷ group_changed g f xs) ≡ x ∷ xs
-      go true k r = absurd (omega (arith, k))
-      go false k r = ap (λ us. x ∷ us) (r (omega (arith, k)) f)
+      there : List Group → ℕ
+      there ys = first (λ x. x.tgid == g) ys
 
-  pub is_group_place : (xs : List Group) (r : Option ℕ) → r ≡ position (λ x. x.tgid == g) xs → IsGroupPlace g xs r
-  is_group_place xs r e = subst (IsGroupPlace g xs) (sym e) (by_place (λ x. x.tgid == g) xs (IsGroupPlace g xs) (λ h. (h, λ f d y k. rw k (group_written f d xs))) (no_group xs))
+      go : (b : Bool) → (x.tgid == g) ≡ b → (if b then 0 else suc (first (λ x. x.tgid == g) xs)) < suc (length xs)
+          → (first (λ x. x.tgid == g) xs < length xs → (group_in xs g ≡ slice_get xs (first (λ x. x.tgid == g) xs)) × ((d : Group) → (get_or xs (first (λ x. x.tgid == g) xs) d).tgid ≡ g))
+          → (cond b (Some x) (group_in xs g) ≡ slice_get (x ∷ xs) (if b then 0 else suc (first (λ x. x.tgid == g) xs))) × ((d : Group) → (get_or (x ∷ xs) (if b then 0 else suc (first (λ x. x.tgid == g) xs)) d).tgid ≡ g)
+      go true e k r = (refl, λ d. eqb-true x.tgid g e)
+      go false e k r = r (omega (arith, k))
+
+  no_group : (xs : List Group) → length xs ≤ first (λ x. x.tgid == g) xs → ((f : Group → Group) → group_changed g f xs ≡ xs) × (group_in xs g ≡ None)
+  no_group [] h = (λ f. refl, refl)
+  no_group (x ∷ xs) h = go (x.tgid == g) h (no_group xs)
+    where
+      go : (b : Bool) → suc (length xs) ≤ (if b then 0 else suc (first (λ x. x.tgid == g) xs)) → (length xs ≤ first (λ x. x.tgid == g) xs → ((f : Group → Group) → group_changed g f xs ≡ xs) × (group_in xs g ≡ None))
+          → ((f : Group → Group) → (if b then f x ∷ xs else x ∷ group_changed g f xs) ≡ x ∷ xs) × (cond b (Some x) (group_in xs g) ≡ None)
+      go true k r = absurd (omega (arith, k))
+      go false k r = let s = r (omega (arith, k)) in (λ f. ap (λ us. x ∷ us) (s.0 f), s.1)
+
+  pub is_group_place : (xs : List Group) (ids : List ℕ) (r : Option ℕ) → ids ≡ tgids_of xs → r ≡ position (λ n. n == g) ids → IsGroupPlace g xs r
+  is_group_place xs ids r i e =
+      let at : r ≡ position (λ x. x.tgid == g) xs = e ∙ (ap (λ (ns : List ℕ). position (λ n. n == g) ns) i ∙ position_mapped (λ n. n == g) (λ x. x.tgid) xs) in
+      subst (IsGroupPlace g xs) (sym at) (by_place (λ x. x.tgid == g) xs (IsGroupPlace g xs) (λ h. let t = group_there xs h in (h, λ f d y k. rw k (group_written f d xs), t.0, t.1)) (no_group xs))

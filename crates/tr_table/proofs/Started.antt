@@ -1,6 +1,6 @@
 -- The threads of a good start: no two have one id, and no group has more than 64.
 use Rattle.std.proofs.Common.{◌≡◌, ◌==◌, ◌&&◌, ◌||◌, ◌+◌, ◌*◌, ◌≤◌, ◌⊎◌, inl, inr, ℕ, List, [], ◌∷◌, ◌++◌, Bool, true, false, not, if◌then◌else◌, length, map, nat_le, length-append, arith, refl, sym, ap, ◌∙◌, true≢false}
-use Rattle.std.proofs.lemmas.Bool.{and_parts, cases_eq, eq-eqb, ne_eqb}
+use Rattle.std.proofs.lemmas.Bool.{and_parts, cases_eq, eq-eqb, eqb-true, ne_eqb}
 use Rattle.std.proofs.lemmas.Bool.{leb-true}
 use Rattle.std.proofs.lemmas.Bool.Decides.{nat_tests}
 use Rattle.std.proofs.lemmas.List.{length-map}
@@ -12,14 +12,15 @@ use Rattle.tr_model.specs.Journals.{ids_of, occurs}
 use Rattle.tr_model.proofs.Measures.{total, total-append}
 use Rattle.tr_model.proofs.OneFate.{one}
 use Rattle.tr_table.specs.Order.{IsRoster}
-use Rattle.tr_table.specs.Starts.{all_started, ids_started, is_good, is_good_actions, is_good_group, is_good_id, is_good_name, leads, no_repeat, thread_started, threads_started}
+use Rattle.tr_table.specs.Private.{tgids_of}
+use Rattle.tr_table.specs.Starts.{all_started, group_started, ids_started, is_good, is_good_actions, is_good_group, is_good_id, is_good_name, leads, no_repeat, thread_started, threads_started}
 use Rattle.tr_table.specs.declared.starts.GroupStart.{GroupStart}
 use Rattle.tr_table.specs.declared.starts.Start.{Start}
 use Rattle.tr_table.proofs.Rosters.{in_all, is_of}
 
 -- ids
 
-none_occurs : (n : ℕ) (xs : List ℕ) → list_any (λ y. y == n) xs ≡ false → occurs n xs ≡ 0
+pub none_occurs : (n : ℕ) (xs : List ℕ) → list_any (λ y. y == n) xs ≡ false → occurs n xs ≡ 0
 none_occurs n [] e = refl
 none_occurs n (x ∷ xs) e = go (x == n) e (none_occurs n xs)
   where
@@ -106,6 +107,24 @@ roster_started s h = record {
 
     ids : IsTrue (no_repeat (ids_started s.groups))
     ids = (and_parts (list_all is_good_id (ids_started s.groups)) (no_repeat (ids_started s.groups)) (and_parts (nat_le (length (ids_started s.groups)) 1024) (list_all is_good_id (ids_started s.groups) && no_repeat (ids_started s.groups)) a.1).1).1
+
+-- each group has its leader's id, so no two have one id
+
+leader_counts : (n g : ℕ) (ts : List (ℕ × SigSet)) → IsTrue (leads g ts) → (if g == n then 1 else 0) ≤ occurs n (map (λ t. t.0) ts)
+leader_counts n g [] h = absurd (true≢false (sym h))
+leader_counts n g (t ∷ ts) h = rw (sym (eqb-true t.0 g h)) (omega arith)
+
+tgids_occur : (n : ℕ) (gs : List GroupStart) → IsTrue (list_all is_good_group gs) → occurs n (tgids_of (map group_started gs)) ≤ occurs n (ids_started gs)
+tgids_occur n [] h = omega arith
+tgids_occur n (g ∷ gs) h =
+    let p = and_parts (is_good_group g) (list_all is_good_group gs) h in
+    omega (arith, occurs_append n (map (λ t. t.0) g.threads) (ids_started gs), leader_counts n g.tgid g.threads (good_group g p.0).0, tgids_occur n gs p.1)
+
+pub groups_once : (s : Start) → IsTrue (is_good s) → (n : ℕ) → occurs n (tgids_of (map group_started s.groups)) ≤ 1
+groups_once s h n =
+    let a = and_parts (list_all is_good_group s.groups) (nat_le (length (ids_started s.groups)) 1024 && (list_all is_good_id (ids_started s.groups) && no_repeat (ids_started s.groups))) h in
+    let b = and_parts (nat_le (length (ids_started s.groups)) 1024) (list_all is_good_id (ids_started s.groups) && no_repeat (ids_started s.groups)) a.1 in
+    omega (arith, tgids_occur n s.groups a.0, once n (ids_started s.groups) (and_parts (list_all is_good_id (ids_started s.groups)) (no_repeat (ids_started s.groups)) b.1).1)
 
 -- each group has its leader, so there are no more groups than threads
 

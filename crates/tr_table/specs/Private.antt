@@ -1,15 +1,31 @@
 -- What private contracts say.
-use Rattle.std.specs.Prelude.{◌≡◌, ℕ, ◌<◌, List, length, remove, slice_set, get_or, Option, Some, None}
+use Rattle.std.specs.Prelude.{◌≡◌, ℕ, ◌<◌, ◌≤◌, List, filter, length, map, remove, slice_get, slice_set, get_or, Option, Some, None}
 use Rattle.tr_tracee.specs.declared.thread.Thread.{Thread}
 use Rattle.tr_model.specs.declared.rows.Group.{Group}
+use Rattle.tr_group.specs.GroupStops.{is_stopping}
 use Rattle.tr_model.specs.Moves.{changed, dropped, group_changed}
+use Rattle.tr_model.specs.Tables.{group_in}
 
 -- a change of the first thread with the id is one at this place, and its removal too; neither does anything where there is none
 abbrev pub IsPlace : ℕ → List Thread → Option ℕ → Type 0
 IsPlace id ts None = ((f : Thread → Thread) → changed id f ts ≡ ts) × (dropped id ts ≡ ts)
 IsPlace id ts (Some i) = (i < length ts) × ((f : Thread → Thread) (d y : Thread) → y ≡ f (get_or ts i d) → slice_set ts i y ≡ changed id f ts) × (remove ts i ≡ dropped id ts)
 
--- a change of the first group with the id is one at this place, and none where there is no such group
+-- a change of the first group with the id is one at this place, where it is found; there is none where no group has the id
 abbrev pub IsGroupPlace : ℕ → List Group → Option ℕ → Type 0
-IsGroupPlace g xs None = (f : Group → Group) → group_changed g f xs ≡ xs
-IsGroupPlace g xs (Some i) = (i < length xs) × ((f : Group → Group) (d y : Group) → y ≡ f (get_or xs i d) → slice_set xs i y ≡ group_changed g f xs)
+IsGroupPlace g xs None = ((f : Group → Group) → group_changed g f xs ≡ xs) × (group_in xs g ≡ None)
+IsGroupPlace g xs (Some i) = (i < length xs) × ((f : Group → Group) (d y : Group) → y ≡ f (get_or xs i d) → slice_set xs i y ≡ group_changed g f xs) × (group_in xs g ≡ slice_get xs i) × ((d : Group) → (get_or xs i d).tgid ≡ g)
+
+-- the ids of the groups, in their order
+abbrev pub tgids_of : List Group → List ℕ
+tgids_of xs = map (λ x. x.tgid) xs
+
+-- how many group-stops of the list are under way
+abbrev pub stopping_in : List Group → ℕ
+stopping_in xs = length (filter (λ x. is_stopping x.group_stop) xs)
+
+-- what is kept beside the groups: where the group of an id stands, and how many group-stops are under way; they are few
+pub record IsGroups (xs : List Group) (ids : List ℕ) (n : ℕ) : Type 0 where
+  pub indexed : ids ≡ tgids_of xs
+  pub counted : n ≡ stopping_in xs
+  pub few : length xs ≤ 1024

@@ -14,7 +14,7 @@ ghost use Rattle.tr_table.specs.Changes.{is_flushed, own, regrouped};
 ghost use Rattle.tr_table.specs.Held.{helds};
 ghost use Rattle.tr_table.specs.Queues.{AllBelow};
 
-use crate::groups::{GroupChange, change_groups, note_group};
+use crate::groups::GroupChange;
 use crate::table::Table;
 use crate::threads::{Own, log_leaving};
 use crate::waiting::{Flush, drop_delivered, drop_flushed, log_delivered, log_flushed, pull};
@@ -115,7 +115,7 @@ impl Table {
     pub fn change_group(&mut self, tgid: u32, change: &GroupChange)
         ensures { self.new ≡ record self.old { table = record self.old.table { groups = map (only_group tgid (regrouped change.now)) self.old.table.groups } } }
     {
-        change_groups(&mut self.groups, tgid, change);
+        self.groups.change(tgid, change);
     }
 
     /// A note of a group for the starter, with the next report.
@@ -124,7 +124,7 @@ impl Table {
         ensures { self.new ≡ record self.old { table = record self.old.table { groups = group_changed tgid (with_note (self.old.table.raised + 1) status.now) self.old.table.groups; raised = self.old.table.raised + 1 } } }
     {
         self.raised += 1;
-        note_group(&mut self.groups, tgid, self.raised, status);
+        self.groups.note(tgid, self.raised, status);
     }
 
     /// Accepts a signal that doesn't wait, and gives its number, which is above all that wait.

@@ -3,10 +3,9 @@ ghost use Rattle.tr_model.specs.Preferred.{least_new, new_id, or_from_2};
 ghost use Rattle.tr_model.specs.Steps.{is_new};
 ghost use Rattle.tr_table.specs.Changes.{ids_table};
 
-use crate::groups::find_group;
+use crate::group_list::Groups;
 use crate::table::Table;
 use crate::threads::find_thread;
-use tr_model::Group;
 use tr_tracee::Thread;
 
 // Which id a new thread gets. No call here takes memory.
@@ -25,17 +24,14 @@ impl Table {
     }
 }
 
-fn is_new(threads: &[Thread], groups: &[Group], id: u32) -> bool
+fn is_new(threads: &[Thread], groups: &Groups, id: u32) -> bool
     ensures { result ≡ is_new (ids_table threads.now groups.now) id }
 {
-    id >= 2
-        && id <= GREATEST
-        && find_thread(threads, id).is_none()
-        && find_group(groups, id).is_none()
+    id >= 2 && id <= GREATEST && find_thread(threads, id).is_none() && groups.find(id).is_none()
 }
 
 /// The least new id from this one on.
-fn least_new(threads: &[Thread], groups: &[Group], from: u32) -> Option<u32>
+fn least_new(threads: &[Thread], groups: &Groups, from: u32) -> Option<u32>
     ensures { result ≡ least_new (ids_table threads.now groups.now) (4194304 - from) from }
 {
     for id in from..GREATEST + 1 {
@@ -47,7 +43,7 @@ fn least_new(threads: &[Thread], groups: &[Group], from: u32) -> Option<u32>
 }
 
 /// The least new id above this one.
-fn least_above(threads: &[Thread], groups: &[Group], above: u32) -> Option<u32>
+fn least_above(threads: &[Thread], groups: &Groups, above: u32) -> Option<u32>
     ensures { result ≡ least_new (ids_table threads.now groups.now) (4194303 - above) (above + 1) }
 {
     if above < GREATEST {
@@ -57,7 +53,7 @@ fn least_above(threads: &[Thread], groups: &[Group], above: u32) -> Option<u32>
     }
 }
 
-fn free_in(threads: &[Thread], groups: &[Group], above: u32) -> u32
+fn free_in(threads: &[Thread], groups: &Groups, above: u32) -> u32
     ensures { result ≡ new_id (ids_table threads.now groups.now) above }
 {
     match least_above(threads, groups, above) {
@@ -66,7 +62,7 @@ fn free_in(threads: &[Thread], groups: &[Group], above: u32) -> u32
     }
 }
 
-fn free_from_2(threads: &[Thread], groups: &[Group]) -> u32
+fn free_from_2(threads: &[Thread], groups: &Groups) -> u32
     ensures { result ≡ or_from_2 (ids_table threads.now groups.now) None }
 {
     least_new(threads, groups, 2).unwrap_or(0)

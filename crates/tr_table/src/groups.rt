@@ -9,7 +9,7 @@ ghost use Rattle.tr_model.specs.Tables.{actions_of, end_of, group_in, stop_of};
 ghost use Rattle.tr_table.specs.Changes.{regrouped};
 ghost use Rattle.tr_table.specs.Private.{IsGroupPlace};
 
-use crate::membership::has_member;
+use crate::group_list::Groups;
 use tr_group::{Action, GroupStop};
 use tr_model::Group;
 use tr_sigset::Signal;
@@ -39,7 +39,7 @@ impl GroupChange {
     ghost use Rattle.tr_table.specs.Changes.{regrouped};
 
     /// What it makes of a group.
-    fn make(&self, group: &mut Group)
+    pub(crate) fn make(&self, group: &mut Group)
         ensures { group.new ≡ regrouped self.now group.old }
     {
         match self {
@@ -82,105 +82,28 @@ fn reset(actions: &mut [Action; 64])
     }
 }
 
-fn change_one(group: &mut Group, tgid: u32, change: &GroupChange)
-    ensures { group.new ≡ only_group tgid (regrouped change.now) group.old }
-{
-    if group.tgid == tgid {
-        change.make(group);
-    }
-}
-
-fn change_each(groups: &mut [Group], tgid: u32, change: &GroupChange)
-    ensures { groups.new ≡ map (only_group tgid (regrouped change.now)) groups.old }
-{
-    for group in groups.iter_mut() {
-        change_one(group, tgid, change);
-    }
-}
-
-/// What happens to the group with the id.
-pub(crate) fn change_groups(groups: &mut Vec<Group>, tgid: u32, change: &GroupChange)
-    ensures items { groups.new.items ≡ map (only_group tgid (regrouped change.now)) groups.old.items }
-{
-    change_each(groups, tgid, change);
-}
-
-fn position_of(groups: &[Group], tgid: u32) -> Option<usize>
-    ensures { result ≡ position (λ x. x.tgid == tgid) groups.now }
-{
-    groups.iter().position(|g| g.tgid == tgid)
-}
-
-/// Where the first group with the id stands.
-#[tactic(auto, using(crate::proofs::Places::is_group_place))]
-fn place_in(groups: &[Group], tgid: u32) -> Option<usize>
-    ensures { IsGroupPlace tgid groups.now result }
-{
-    position_of(groups, tgid)
-}
-
-/// Sets the note of the group with the id, with the report of this number.
-pub(crate) fn note_group(groups: &mut Vec<Group>, tgid: u32, number: u64, status: &Status)
-    ensures items { groups.new.items ≡ group_changed tgid (with_note number status.now) groups.old.items }
-{
-    if let Some(place) = place_in(groups, tgid) {
-        groups[place].note = Some(Report {
-            number,
-            status: *status,
-        });
-    }
-}
-
-/// Overwrites the record of the first group with the same id.
-pub(crate) fn replace_group(groups: &mut Vec<Group>, group: &Group)
-    ensures items { groups.new.items ≡ group_changed group.now.tgid (λ _. group.now) groups.old.items }
-{
-    if let Some(place) = place_in(groups, group.tgid) {
-        groups[place] = *group;
-    }
-}
-
-fn stays(group: &Group, threads: &[Thread], tgid: u32) -> bool
-    ensures { result ≡ (not (group.now.tgid == tgid) || list_any (in_group tgid) threads.now) }
-{
-    group.tgid != tgid || has_member(threads, tgid)
-}
-
-/// The groups with the id go where they have no threads.
-pub(crate) fn drop_empty(groups: &mut Vec<Group>, threads: &[Thread], tgid: u32)
-    ensures { groups.new.items ≡ filter (λ x. not (x.tgid == tgid) || list_any (in_group tgid) threads.now) groups.old.items }
-{
-    groups.retain(|g| stays(g, threads, tgid));
-}
-
-pub(crate) fn find_group(groups: &[Group], tgid: u32) -> Option<&Group>
-    ensures { option_copied result ≡ group_in groups.now tgid }
-{
-    groups.iter().find(|g| g.tgid == tgid)
-}
-
-pub(crate) fn stop_in(groups: &[Group], tgid: u32) -> GroupStop
+pub(crate) fn stop_in(groups: &Groups, tgid: u32) -> GroupStop
     ensures { result ≡ stop_of (group_in groups.now tgid) }
 {
-    match find_group(groups, tgid) {
+    match groups.find(tgid) {
         Some(group) => group.group_stop,
         None => GroupStop::No,
     }
 }
 
-pub(crate) fn end_in(groups: &[Group], tgid: u32) -> Option<End>
+pub(crate) fn end_in(groups: &Groups, tgid: u32) -> Option<End>
     ensures { result ≡ end_of (group_in groups.now tgid) }
 {
-    match find_group(groups, tgid) {
+    match groups.find(tgid) {
         Some(group) => group.end,
         None => None,
     }
 }
 
-pub(crate) fn action_in(groups: &[Group], tgid: u32, signal: Signal) -> Action
+pub(crate) fn action_in(groups: &Groups, tgid: u32, signal: Signal) -> Action
     ensures { result ≡ slice_index_or (actions_of (group_in groups.now tgid)) (signal - 1) Default }
 {
-    match find_group(groups, tgid) {
+    match groups.find(tgid) {
         Some(group) => group.actions[usize::from(signal.number() - 1)],
         None => Action::Default,
     }

@@ -4,7 +4,9 @@
 mod changes;
 mod fresh;
 mod good;
+mod group_list;
 mod groups;
+mod index;
 mod items;
 mod logs;
 mod masks;

@@ -3,6 +3,7 @@ ghost use Rattle.std.specs.List.{list_all};
 ghost use Rattle.tr_model.specs.Sends.{set_at};
 ghost use Rattle.tr_table.specs.Starts.{all_started, group_started, is_good, name_fits, name_of, table_of, thread_started, threads_started, with_actions};
 
+use crate::group_list::Groups;
 use crate::logs::Log;
 use crate::starts::{GroupStart, Start};
 use crate::table::Table;
@@ -24,7 +25,7 @@ impl Table {
         ensures { IfOk result (λ t. t.table ≡ table_of start.now) }
     {
         let threads = started_threads(start.groups.as_slice(), alloc)?;
-        let groups = started_groups(start.groups.as_slice(), alloc)?;
+        let groups = Groups::from_vec(started_groups(start.groups.as_slice(), alloc)?, alloc)?;
         Ok(Table {
             threads,
             groups,

@@ -8,7 +8,7 @@ ghost use Rattle.tr_model.specs.Moves.{instance_in};
 ghost use Rattle.tr_model.specs.Tables.{action_of, all_dead, end_of, group_of, has_live, has_stop_mark, has_traced, members, others_dead, owner, queue, stop_of};
 ghost use Rattle.tr_table.specs.Changes.{stopping, tgids};
 
-use crate::groups::{action_in, count_stopping, end_in, stop_in};
+use crate::groups::{action_in, end_in, stop_in};
 use crate::membership::{
     all_dead, count_members, has_live, has_stop_mark, has_traced, others_dead, some_blocks,
 };
@@ -134,14 +134,14 @@ impl Table {
     pub fn stopping(&self) -> usize
         ensures { result ≡ stopping self.now.table }
     {
-        count_stopping(&self.groups)
+        self.groups.stopping()
     }
 
     /// How many groups there are.
     pub fn group_count(&self) -> usize
         ensures { result ≡ length (tgids self.now.table) }
     {
-        self.groups.len()
+        self.groups.as_slice().len()
     }
 
     /// The id of the group at a place, from 0.
@@ -149,7 +149,7 @@ impl Table {
         requires { i < length (tgids self.now.table) }
         ensures { result ≡ slice_index (tgids self.now.table) i }
     {
-        self.groups[i].tgid
+        self.groups.as_slice()[i].tgid
     }
 
     /// How many threads there are.

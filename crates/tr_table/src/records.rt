@@ -3,7 +3,6 @@ ghost use Rattle.tr_tracee.specs.declared.thread.Thread.{Thread};
 ghost use Rattle.tr_model.specs.Moves.{at, begin, changed, drop_empty, dropped, group_changed, placed, remove_dead};
 ghost use Rattle.tr_model.specs.Tables.{members, thread_of};
 
-use crate::groups::{drop_empty, replace_group};
 use crate::table::Table;
 use crate::threads::find_thread;
 use crate::waiting::reaim;
@@ -49,7 +48,7 @@ impl Table {
     pub fn remove_group(&mut self, tgid: u32)
         ensures { self.new ≡ record self.old { table = (drop_empty tgid (begin self.old.table)).table } }
     {
-        drop_empty(&mut self.groups, self.threads.as_slice(), tgid);
+        self.groups.drop_empty(self.threads.as_slice(), tgid);
     }
 
     /// The thread with the id takes the place and the id of its dead leader, whose record goes, and what waits for it
@@ -76,6 +75,6 @@ impl Table {
     pub fn put_group(&mut self, group: &Group)
         ensures { self.new ≡ record self.old { table = record self.old.table { groups = group_changed group.now.tgid (λ _. group.now) self.old.table.groups } } }
     {
-        replace_group(&mut self.groups, group);
+        self.groups.replace(group);
     }
 }

@@ -4,7 +4,6 @@ ghost use Rattle.tr_model.specs.Tables.{group_of};
 ghost use Rattle.tr_table.specs.Changes.{queue_in};
 ghost use Rattle.tr_table.specs.Rows.{IsRows, IsWord, RowsOf, blocked_word, runnable_word};
 
-use crate::groups::find_group;
 use crate::masks::mask_of;
 use crate::table::Table;
 use arrayvec::ArrayVec;
@@ -89,7 +88,7 @@ impl Table {
         ensures there { is_some result ≡ is_some (group_of self.now.table tgid) }
         ensures rows { IfSome result (λ r. RowsOf self.now.table tgid r) }
     {
-        let _group = find_group(&self.groups, tgid)?;
+        let _group = self.groups.find(tgid)?;
         Some(rows_of(self.threads.as_slice(), &self.waiting, tgid))
     }
 }

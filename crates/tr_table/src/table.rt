@@ -2,7 +2,7 @@ ghost use Rattle.std.specs.Prelude.{◌≡◌, ◌+◌, ◌<◌, ◌≤◌, OnOk
 ghost use Rattle.tr_model.specs.Journals.{DistinctIds};
 ghost use Rattle.tr_model.specs.Tables.{group_in, thread_in};
 
-use crate::groups::find_group;
+use crate::group_list::Groups;
 use crate::logs::Log;
 use crate::threads::{Threads, find_thread};
 use std::alloc::{AllocError, Global};
@@ -14,7 +14,7 @@ use tr_tracee::Thread;
 #[derive(Drop)]
 pub struct Table {
     pub(crate) threads: Threads,
-    pub(crate) groups: Vec<Group>,
+    pub(crate) groups: Groups,
     pub(crate) waiting: Vec<Waiting>,
     pub(crate) accepted: u64,
     pub(crate) raised: u64,
@@ -31,11 +31,11 @@ impl Model for Table {
     ghost Value = { View };
 
     ghost view = { λ t. record {
-      table = record { threads = t.threads; groups = t.groups.items; waiting = t.waiting.items; accepted = t.accepted; raised = t.raised; limit = t.limit; entries = t.entries };
+      table = record { threads = t.threads; groups = t.groups; waiting = t.waiting.items; accepted = t.accepted; raised = t.raised; limit = t.limit; entries = t.entries };
       room = vec_capacity t.waiting - vec_len t.waiting;
     } };
 
-    ghost invariant = { λ t. IsTable t.threads t.groups.items t.waiting.items t.accepted };
+    ghost invariant = { λ t. IsTable t.threads t.groups t.waiting.items t.accepted };
 }
 
 impl Table {
@@ -52,7 +52,7 @@ impl Table {
     pub fn group(&self, tgid: u32) -> Option<&Group>
         ensures { option_copied result ≡ group_in self.now.table.groups tgid }
     {
-        find_group(&self.groups, tgid)
+        self.groups.find(tgid)
     }
 
     /// How many signals were accepted.

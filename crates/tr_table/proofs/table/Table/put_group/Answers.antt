@@ -3,4 +3,4 @@ use Rattle.tr_table.proofs.Keeping.{as_many_changed}
 use Rattle.tr_table.proofs.table.Table.put_group.Goals as goal
 
 pub invariant_of-self : goal.invariant_of-self
-invariant_of-self c = let k = ap length c.replace_group.ensures.items ∙ as_many_changed _ _ _ in record { roster = c.self.invariant.roster; few = rw k c.self.invariant.few; ordered = c.self.invariant.ordered }
+invariant_of-self c = let k = ap length c.replace.ensures ∙ as_many_changed _ _ _ in record { roster = c.self.invariant.roster; few = rw k c.self.invariant.few; ordered = c.self.invariant.ordered }

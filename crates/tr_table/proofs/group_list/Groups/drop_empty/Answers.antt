@@ -1,0 +1,39 @@
+use Rattle.std.proofs.Common.{◌≡◌, ◌==◌, ◌||◌, filter, not, remove, Bool, ◌∙◌, List, Some, get_or, arith, ap, subst, sym}
+use Rattle.tr_group.specs.GroupStops.{is_stopping}
+use Rattle.tr_model.specs.declared.rows.Group.{Group}
+use Rattle.tr_table.specs.Held.{one}
+use Rattle.tr_table.specs.Private.{IsGroupPlace}
+use Rattle.tr_table.proofs.GroupLists.{all_kept, few_stopping, gone, none_kept_out, one_counted, one_goes}
+use Rattle.tr_table.proofs.group_list.Groups.drop_empty.Goals as goal
+
+pub returns-then-has_member : goal.returns-then-has_member
+returns-then-has_member c = sym (ap (λ (b : Bool). filter (λ (x : Group). not (x.tgid == c.args.tgid) || b) c.args.self.now) (sym c.has_member.ensures ∙ c.if-has_member.true) ∙ all_kept c.args.tgid c.args.self.now)
+
+pub recounted-self-inside-requires-clause-was : goal.recounted-self-inside-requires-clause-was
+recounted-self-inside-requires-clause-was c =
+    let xs = c.self.inside.list.items in
+    let x = c.remove-gone.result in
+    let here : IsGroupPlace c.args.tgid xs (Some c.in-Some.place) = subst (λ (ys : List Group). IsGroupPlace c.args.tgid ys (Some c.in-Some.place)) (sym c.self.view_is) c.in-Some.ensures.place in
+    let was : one c.is_stopping.result ≡ one (is_stopping (get_or xs c.in-Some.place x).group_stop) = ap one (c.is_stopping.ensures ∙ ap (λ (y : Group). is_stopping y.group_stop) c.remove-gone.ensures.value) in
+    omega (arith, was, one_counted xs c.in-Some.place x here.0, c.self.invariant.counted)
+
+pub recounted-self-inside-requires-clause-few : goal.recounted-self-inside-requires-clause-few
+recounted-self-inside-requires-clause-few c = omega (arith, few_stopping c.self.inside.list.items, c.self.invariant.counted, c.self.invariant.few)
+
+pub invariant_of-self : goal.invariant_of-self
+invariant_of-self c =
+    let xs = c.self.inside.list.items in
+    let x = c.remove-gone.result in
+    let here : IsGroupPlace c.args.tgid xs (Some c.in-Some.place) = subst (λ (ys : List Group). IsGroupPlace c.args.tgid ys (Some c.in-Some.place)) (sym c.self.view_is) c.in-Some.ensures.place in
+    let was : one c.is_stopping.result ≡ one (is_stopping (get_or xs c.in-Some.place x).group_stop) = ap one (c.is_stopping.ensures ∙ ap (λ (y : Group). is_stopping y.group_stop) c.remove-gone.ensures.value) in
+    rw (c.remove-gone.ensures.items, c.remove.ensures) (gone xs _ _ _ c.in-Some.place x c.self.invariant here.0 (omega (arith, was, c.recounted-self-inside.ensures)))
+
+pub returns-in-Some : goal.returns-in-Some
+returns-in-Some c =
+    let none : Bool → List Group = λ b. filter (λ (x : Group). not (x.tgid == c.args.tgid) || b) c.args.self.now in
+    c.remove-gone.ensures.items ∙ (ap (λ (xs : List Group). remove xs c.in-Some.place) c.self.view_is ∙ (one_goes c.args.tgid c.args.self.now c.in-Some.place c.remove-gone.result c.in-Some.ensures.place.0 (c.in-Some.ensures.place.3 c.remove-gone.result) (c.place.ensures.once c.args.tgid) ∙ ap none (sym (sym c.has_member.ensures ∙ c.if-has_member.false))))
+
+pub returns-in_default : goal.returns-in_default
+returns-in_default c =
+    let none : Bool → List Group = λ b. filter (λ (x : Group). not (x.tgid == c.args.tgid) || b) c.args.self.now in
+    sym (none_kept_out c.args.tgid c.args.self.now c.in_default.ensures.place.1) ∙ ap none (sym (sym c.has_member.ensures ∙ c.if-has_member.false))

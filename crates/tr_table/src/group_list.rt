@@ -1,0 +1,156 @@
+ghost use Rattle.std.specs.Prelude.{◌≡◌, ℕ, ◌+◌, ◌≤◌, ◌==◌, ◌||◌, IfOk, filter, length, map, not, option_copied};
+ghost use Rattle.std.specs.List.{list_any};
+ghost use Rattle.tr_tracee.specs.Threads.{in_group};
+ghost use Rattle.tr_model.specs.Journals.{occurs};
+ghost use Rattle.tr_model.specs.Moves.{group_changed, only_group, with_note};
+ghost use Rattle.tr_model.specs.Tables.{group_in};
+ghost use Rattle.tr_table.specs.Changes.{regrouped};
+ghost use Rattle.tr_table.specs.Held.{one};
+ghost use Rattle.tr_table.specs.Private.{IsGroupPlace, stopping_in, tgids_of};
+
+use crate::groups::{GroupChange, count_stopping};
+use crate::index::Index;
+use crate::membership::has_member;
+use std::alloc::{AllocError, Global};
+use std::marker::Model;
+use tr_model::Group;
+use tr_tracee::{Report, Thread};
+use tr_wait::Status;
+
+/// The groups of a table, in table order, each found by its id. No two have one id.
+#[derive(Drop)]
+pub(crate) struct Groups {
+    list: Vec<Group>,
+    index: Index,
+    stopping: usize,
+}
+
+impl Model for Groups {
+    ghost use Rattle.std.specs.Prelude.{List};
+    ghost use Rattle.tr_model.specs.declared.rows.Group.{Group};
+    ghost use Rattle.tr_table.specs.Private.{IsGroups};
+
+    ghost Value = { List Group };
+
+    ghost view = { λ g. g.list.items };
+
+    ghost invariant = { λ g. IsGroups g.list.items g.index g.stopping };
+}
+
+fn index_of(groups: &[Group], alloc: Global) -> Result<Index, AllocError>
+    requires { (n : ℕ) → occurs n (tgids_of groups.now) ≤ 1 }
+    ensures { IfOk result (λ ids. ids ≡ tgids_of groups.now) }
+{
+    let mut index = Index::new(alloc);
+    for group in groups {
+        index.push(group.tgid)?;
+    }
+    Ok(index)
+}
+
+/// Counts again where one of those that are counted was or wasn't under way, and is or isn't now.
+fn recounted(stopping: usize, was: bool, is: bool) -> usize
+    requires was { one was ≤ stopping }
+    requires few { stopping ≤ 1024 }
+    ensures { result + one was ≡ stopping + one is }
+{
+    match (was, is) {
+        (true, false) => stopping - 1,
+        (false, true) => stopping + 1,
+        _ => stopping,
+    }
+}
+
+impl Groups {
+    pub(crate) fn from_vec(list: Vec<Group>, alloc: Global) -> Result<Groups, AllocError>
+        requires once { (n : ℕ) → occurs n (tgids_of list.items) ≤ 1 }
+        requires few { length list.items ≤ 1024 }
+        ensures { IfOk result (λ xs. xs ≡ list.items) }
+    {
+        let index = index_of(&list, alloc)?;
+        let stopping = count_stopping(&list);
+        Ok(Groups {
+            list,
+            index,
+            stopping,
+        })
+    }
+
+    pub(crate) fn as_slice(&self) -> &[Group]
+        ensures { result.now ≡ self.now }
+    {
+        self.list.as_slice()
+    }
+
+    /// How many group-stops are under way.
+    pub(crate) fn stopping(&self) -> usize
+        ensures { result ≡ stopping_in self.now }
+    {
+        self.stopping
+    }
+
+    fn place(&self, tgid: u32) -> Option<usize>
+        ensures place { IsGroupPlace tgid self.now result }
+        ensures once { (n : ℕ) → occurs n (tgids_of self.now) ≤ 1 }
+    {
+        self.index.place(tgid)
+    }
+
+    pub(crate) fn find(&self, tgid: u32) -> Option<&Group>
+        ensures { option_copied result ≡ group_in self.now tgid }
+    {
+        let place = self.place(tgid)?;
+        Some(&self.list[place])
+    }
+
+    /// Changes the group with the id.
+    pub(crate) fn change(&mut self, tgid: u32, change: &GroupChange)
+        ensures { self.new ≡ map (only_group tgid (regrouped change.now)) self.old }
+    {
+        if let Some(place) = self.place(tgid) {
+            let group = &mut self.list[place];
+            let was = group.group_stop.is_stopping();
+            change.make(group);
+            let is = group.group_stop.is_stopping();
+            self.stopping = recounted(self.stopping, was, is);
+        }
+    }
+
+    /// Sets the note of the group with the id, with the report of this number.
+    pub(crate) fn note(&mut self, tgid: u32, number: u64, status: &Status)
+        ensures { self.new ≡ group_changed tgid (with_note number status.now) self.old }
+    {
+        if let Some(place) = self.place(tgid) {
+            self.list[place].note = Some(Report {
+                number,
+                status: *status,
+            });
+        }
+    }
+
+    /// Overwrites the record of the group with the same id.
+    pub(crate) fn replace(&mut self, group: &Group)
+        ensures { self.new ≡ group_changed group.now.tgid (λ _. group.now) self.old }
+    {
+        if let Some(place) = self.place(group.tgid) {
+            let was = self.list[place].group_stop.is_stopping();
+            let is = group.group_stop.is_stopping();
+            self.list[place] = *group;
+            self.stopping = recounted(self.stopping, was, is);
+        }
+    }
+
+    /// The group with the id goes where it has no threads.
+    pub(crate) fn drop_empty(&mut self, threads: &[Thread], tgid: u32)
+        ensures { self.new ≡ filter (λ x. not (x.tgid == tgid) || list_any (in_group tgid) threads.now) self.old }
+    {
+        if has_member(threads, tgid) {
+            return;
+        }
+        if let Some(place) = self.place(tgid) {
+            let gone = self.list.remove(place);
+            self.index.remove(place);
+            self.stopping = recounted(self.stopping, gone.group_stop.is_stopping(), false);
+        }
+    }
+}
