@@ -20,7 +20,7 @@ use Rattle.tr_table.specs.declared.threads.Own.{Own}
 use Rattle.tr_table.specs.declared.threads.Own.TheVariants as change
 use Rattle.tr_table.proofs.Rosters.{Same, roster_changed, roster_map, same_where}
 
-same_own : (o : Own) (t : Thread) → Same t (own o t)
+pub same_own : (o : Own) (t : Thread) → Same t (own o t)
 same_own change.Release t = elim (is_dead t.life) as (λ b. Same t (if b then record t { trace = None; report = None } else t)) [ true ↦ record { id = refl; group = refl } | false ↦ record { id = refl; group = refl } ]
 same_own (change.Detach in_effect) t = elim (is_in_stop t.life) as (λ b. Same t (if b then t else without_trace in_effect t)) [ true ↦ record { id = refl; group = refl } | false ↦ record { id = refl; group = refl } ]
 same_own _ t = record { id = refl; group = refl }
@@ -35,7 +35,7 @@ same_broken kill e t = elim (is_dead t.life) as (λ b. Same t (if b then t else 
 throughout_group : (g : ℕ) (f : Thread → Thread) → ((t : Thread) → Same t (f t)) → (ts : List Thread) → IsRoster ts → IsRoster (map (throughout g f) ts)
 throughout_group g f s ts h = roster_map (throughout g f) (λ t. same_where (t.group == g) t (f t) (s t)) ts h
 
-same_applied : (change : Change) (t : Thread) → Same t (applied change t)
+pub same_applied : (change : Change) (t : Thread) → Same t (applied change t)
 same_applied member.Mark t = record { id = refl; group = refl }
 same_applied (member.Continue in_effect) t = same_continued in_effect t
 same_applied member.NoteCont t = record { id = refl; group = refl }
@@ -65,7 +65,7 @@ roster_entered id n s ts h = roster_changed id (entered_as n s) ts (λ t e. reco
 pub roster_reported : (id n : ℕ) (s : Status) (ts : List Thread) → IsRoster ts → IsRoster (changed id (reported n s) ts)
 roster_reported id n s ts h = roster_changed id (reported n s) ts (λ t e. record { id = refl; group = refl }) h
 
-same_by_exec : (id : ℕ) (e : End) (t : Thread) → Same t (broken_by_exec id e t)
+pub same_by_exec : (id : ℕ) (e : End) (t : Thread) → Same t (broken_by_exec id e t)
 same_by_exec id e t = go (t.id == id)
   where
     go : (b : Bool) → Same t (if b then t else broken false (own_end e t.life) t)

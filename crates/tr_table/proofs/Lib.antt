@@ -12,3 +12,4 @@ pub mod Settling
 pub mod Started
 pub mod FreeIds
 pub mod Onlys
+pub mod ThreadLists

@@ -144,7 +144,7 @@ total_joined m k f s [] = omega arith
 total_joined m k f s (t ∷ ts) = omega (arith, s t, total_joined m k f s ts)
 
 module _ (t : Thread) where
-  place_id : (x : Thread) → (in_place t x).id ≡ x.id
+  pub place_id : (x : Thread) → (in_place t x).id ≡ x.id
   place_id x = go (x.id == t.group && is_dead x.life) refl
     where
       go : (b : Bool) → (x.id == t.group && is_dead x.life) ≡ b → (if b then renamed t.group t else x).id ≡ x.id

@@ -4,12 +4,13 @@ use Rattle.tr_tracee.specs.declared.thread.Thread.{Thread}
 use Rattle.tr_model.specs.declared.rows.Group.{Group}
 use Rattle.tr_group.specs.GroupStops.{is_stopping}
 use Rattle.tr_model.specs.Moves.{changed, dropped, group_changed}
-use Rattle.tr_model.specs.Tables.{group_in}
+use Rattle.tr_model.specs.Tables.{group_in, thread_in}
 
--- a change of the first thread with the id is one at this place, and its removal too; neither does anything where there is none
+-- a change of the first thread with the id is one at this place, where it is found, and its removal too; neither does
+-- anything where no thread has the id
 abbrev pub IsPlace : ℕ → List Thread → Option ℕ → Type 0
-IsPlace id ts None = ((f : Thread → Thread) → changed id f ts ≡ ts) × (dropped id ts ≡ ts)
-IsPlace id ts (Some i) = (i < length ts) × ((f : Thread → Thread) (d y : Thread) → y ≡ f (get_or ts i d) → slice_set ts i y ≡ changed id f ts) × (remove ts i ≡ dropped id ts)
+IsPlace id ts None = ((f : Thread → Thread) → changed id f ts ≡ ts) × (dropped id ts ≡ ts) × (thread_in ts id ≡ None)
+IsPlace id ts (Some i) = (i < length ts) × ((f : Thread → Thread) (d y : Thread) → y ≡ f (get_or ts i d) → slice_set ts i y ≡ changed id f ts) × (remove ts i ≡ dropped id ts) × (thread_in ts id ≡ slice_get ts i) × ((d : Thread) → (get_or ts i d).id ≡ id)
 
 -- a change of the first group with the id is one at this place, where it is found; there is none where no group has the id
 abbrev pub IsGroupPlace : ℕ → List Group → Option ℕ → Type 0

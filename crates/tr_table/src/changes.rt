@@ -163,8 +163,8 @@ impl Table {
         ensures len { vec_len ended.new ≡ vec_len ended.old + length (filter (is_flushed self.old.table.threads tgid flush.now) self.old.table.waiting) }
         ensures capacity { vec_capacity ended.new ≡ vec_capacity ended.old }
     {
-        log_flushed(ended, &self.waiting, self.threads.as_slice(), tgid, flush);
-        drop_flushed(&mut self.waiting, self.threads.as_slice(), tgid, flush);
+        log_flushed(ended, &self.waiting, &self.threads, tgid, flush);
+        drop_flushed(&mut self.waiting, &self.threads, tgid, flush);
     }
 
     /// Delivers the pending instance of a number, and appends it to `ended`.

@@ -5,8 +5,7 @@ ghost use Rattle.tr_table.specs.Changes.{ids_table};
 
 use crate::group_list::Groups;
 use crate::table::Table;
-use crate::threads::find_thread;
-use tr_tracee::Thread;
+use crate::threads::Threads;
 
 // Which id a new thread gets. No call here takes memory.
 
@@ -20,18 +19,18 @@ impl Table {
         ensures free { result ≡ new_id self.now.table above }
         ensures new { length self.now.table.threads < 1024 → is_new self.now.table result ≡ true }
     {
-        free_in(self.threads.as_slice(), &self.groups, above)
+        free_in(&self.threads, &self.groups, above)
     }
 }
 
-fn is_new(threads: &[Thread], groups: &Groups, id: u32) -> bool
+fn is_new(threads: &Threads, groups: &Groups, id: u32) -> bool
     ensures { result ≡ is_new (ids_table threads.now groups.now) id }
 {
-    id >= 2 && id <= GREATEST && find_thread(threads, id).is_none() && groups.find(id).is_none()
+    id >= 2 && id <= GREATEST && threads.find(id).is_none() && groups.find(id).is_none()
 }
 
 /// The least new id from this one on.
-fn least_new(threads: &[Thread], groups: &Groups, from: u32) -> Option<u32>
+fn least_new(threads: &Threads, groups: &Groups, from: u32) -> Option<u32>
     ensures { result ≡ least_new (ids_table threads.now groups.now) (4194304 - from) from }
 {
     for id in from..GREATEST + 1 {
@@ -43,7 +42,7 @@ fn least_new(threads: &[Thread], groups: &Groups, from: u32) -> Option<u32>
 }
 
 /// The least new id above this one.
-fn least_above(threads: &[Thread], groups: &Groups, above: u32) -> Option<u32>
+fn least_above(threads: &Threads, groups: &Groups, above: u32) -> Option<u32>
     ensures { result ≡ least_new (ids_table threads.now groups.now) (4194303 - above) (above + 1) }
 {
     if above < GREATEST {
@@ -53,7 +52,7 @@ fn least_above(threads: &[Thread], groups: &Groups, above: u32) -> Option<u32>
     }
 }
 
-fn free_in(threads: &[Thread], groups: &Groups, above: u32) -> u32
+fn free_in(threads: &Threads, groups: &Groups, above: u32) -> u32
     ensures { result ≡ new_id (ids_table threads.now groups.now) above }
 {
     match least_above(threads, groups, above) {
@@ -62,7 +61,7 @@ fn free_in(threads: &[Thread], groups: &Groups, above: u32) -> u32
     }
 }
 
-fn free_from_2(threads: &[Thread], groups: &Groups) -> u32
+fn free_from_2(threads: &Threads, groups: &Groups) -> u32
     ensures { result ≡ or_from_2 (ids_table threads.now groups.now) None }
 {
     least_new(threads, groups, 2).unwrap_or(0)

@@ -1,5 +1,6 @@
-ghost use Rattle.std.specs.Prelude.{◌≡◌, ◌-◌, ◌≤◌, IfOk, IsTrue, length, map};
+ghost use Rattle.std.specs.Prelude.{◌≡◌, ℕ, ◌-◌, ◌≤◌, IfOk, IsTrue, length, map};
 ghost use Rattle.std.specs.List.{list_all};
+ghost use Rattle.tr_model.specs.Journals.{ids_of, occurs};
 ghost use Rattle.tr_model.specs.Sends.{set_at};
 ghost use Rattle.tr_table.specs.Starts.{all_started, group_started, is_good, name_fits, name_of, table_of, thread_started, threads_started, with_actions};
 
@@ -40,13 +41,14 @@ impl Table {
 }
 
 fn started_threads(groups: &[GroupStart], alloc: Global) -> Result<Threads, AllocError>
+    requires { (n : ℕ) → occurs n (ids_of (all_started groups.now)) ≤ 1 }
     ensures { IfOk result (λ ts. ts ≡ all_started groups.now) }
 {
     let mut list = Vec::new(alloc);
     for group in groups {
         list.extend_from_slice(threads_of(group, alloc)?.as_slice())?;
     }
-    Ok(Threads::from_vec(list))
+    Threads::from_vec(list, alloc)
 }
 
 fn threads_of(group: &GroupStart, alloc: Global) -> Result<Vec<Thread>, AllocError>

@@ -28,7 +28,7 @@ impl Table {
     pub fn owner(&self, target: Target) -> u32
         ensures { result ≡ owner self.now.table target }
     {
-        owner_of(self.threads.as_slice(), target)
+        owner_of(&self.threads, target)
     }
 
     /// Whether somebody traces a thread of the group.

@@ -4,7 +4,6 @@ ghost use Rattle.tr_model.specs.Moves.{at, begin, changed, drop_empty, dropped, 
 ghost use Rattle.tr_model.specs.Tables.{members, thread_of};
 
 use crate::table::Table;
-use crate::threads::find_thread;
 use crate::waiting::reaim;
 use std::alloc::AllocError;
 use tr_model::Group;
@@ -32,7 +31,7 @@ impl Table {
         ensures was { result ≡ is_some (thread_of self.old.table id) }
         ensures table { self.new ≡ record self.old { table = record self.old.table { threads = dropped id self.old.table.threads } } }
     {
-        let was = find_thread(self.threads.as_slice(), id).is_some();
+        let was = self.threads.find(id).is_some();
         self.threads.remove(id);
         was
     }
@@ -56,7 +55,7 @@ impl Table {
     pub fn rename(&mut self, id: u32)
         ensures { self.new ≡ record self.old { table = (at id placed (begin self.old.table)).table } }
     {
-        if let Some(thread) = find_thread(self.threads.as_slice(), id) {
+        if let Some(thread) = self.threads.find(id) {
             let thread = *thread;
             self.threads.take_place(&thread);
             reaim(&mut self.waiting, thread.id, thread.group);

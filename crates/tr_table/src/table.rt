@@ -4,7 +4,7 @@ ghost use Rattle.tr_model.specs.Tables.{group_in, thread_in};
 
 use crate::group_list::Groups;
 use crate::logs::Log;
-use crate::threads::{Threads, find_thread};
+use crate::threads::Threads;
 use std::alloc::{AllocError, Global};
 use std::marker::Model;
 use tr_model::{Group, Waiting};
@@ -45,7 +45,7 @@ impl Table {
         ensures distinct { DistinctIds self.now.table }
         ensures few { length self.now.table.groups ≤ 1024 }
     {
-        find_thread(self.threads.as_slice(), id)
+        self.threads.find(id)
     }
 
     /// The record of a group.

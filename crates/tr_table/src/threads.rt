@@ -1,4 +1,4 @@
-ghost use Rattle.std.specs.Prelude.{◌≡◌, ◌+◌, ◌<◌, ◌≤◌, ◌++◌, ◌∷◌, ◌==◌, ◌&&◌, ◌||◌, [], OnErr, OnOk, length, filter, flat_map, is_some, map, not, option_copied, position, slice_get, slice_set, vec_len, vec_capacity};
+ghost use Rattle.std.specs.Prelude.{◌≡◌, ◌+◌, ◌<◌, ◌≤◌, ◌++◌, ◌∷◌, ◌==◌, ◌&&◌, ◌||◌, [], ℕ, IfOk, None, OnErr, OnOk, length, filter, flat_map, is_some, map, not, option_copied, remove, slice_get, slice_set, vec_len, vec_capacity};
 ghost use Rattle.std.specs.List.{list_all, list_any};
 ghost use Rattle.tr_sigset.specs.Sets.{has};
 ghost use Rattle.tr_tracee.specs.Lives.{is_dead, is_live};
@@ -8,11 +8,13 @@ ghost use Rattle.tr_model.specs.declared.fates.Fate.TheVariants.{Flushed};
 ghost use Rattle.tr_table.specs.Held.{helds, one};
 ghost use Rattle.tr_tracee.specs.Stops.{entered_as, reported};
 ghost use Rattle.tr_group.specs.Members.{count_in, member, put_member};
+ghost use Rattle.tr_model.specs.Journals.{ids_of, occurs};
 ghost use Rattle.tr_model.specs.Moves.{changed, dropped, endings, ends, in_place};
 ghost use Rattle.tr_model.specs.Tables.{owner_in, thread_in};
 ghost use Rattle.tr_table.specs.Changes.{own};
 ghost use Rattle.tr_table.specs.Private.{IsPlace};
 
+use crate::index::Index;
 use std::alloc::{AllocError, Global};
 use std::marker::Model;
 use std::slice;
@@ -27,15 +29,20 @@ use tr_wait::Status;
 #[derive(Drop)]
 pub(crate) struct Threads {
     list: Vec<Thread>,
+    index: Index,
 }
 
 impl Model for Threads {
     ghost use Rattle.std.specs.Prelude.{List};
     ghost use Rattle.tr_tracee.specs.declared.thread.Thread.{Thread};
+    ghost use Rattle.std.specs.Prelude.{◌≡◌};
+    ghost use Rattle.tr_model.specs.Journals.{ids_of};
 
     ghost Value = { List Thread };
 
     ghost view = { λ t. t.list.items };
+
+    ghost invariant = { λ t. t.index ≡ ids_of t.list.items };
 }
 
 /// What happens to the record of one thread.
@@ -95,11 +102,38 @@ impl Members for Threads {
     }
 }
 
+fn index_of(threads: &[Thread], alloc: Global) -> Result<Index, AllocError>
+    requires { (n : ℕ) → occurs n (ids_of threads.now) ≤ 1 }
+    ensures { IfOk result (λ ids. ids ≡ ids_of threads.now) }
+{
+    let mut index = Index::new(alloc);
+    for thread in threads {
+        index.push(thread.id)?;
+    }
+    Ok(index)
+}
+
 impl Threads {
-    pub(crate) fn from_vec(list: Vec<Thread>) -> Self
-        ensures { result ≡ list.items }
+    pub(crate) fn from_vec(list: Vec<Thread>, alloc: Global) -> Result<Self, AllocError>
+        requires { (n : ℕ) → occurs n (ids_of list.items) ≤ 1 }
+        ensures { IfOk result (λ ts. ts ≡ list.items) }
     {
-        Threads { list }
+        let index = index_of(&list, alloc)?;
+        Ok(Threads { list, index })
+    }
+
+    fn place(&self, id: u32) -> Option<usize>
+        ensures place { IsPlace id self.now result }
+        ensures once { (n : ℕ) → occurs n (ids_of self.now) ≤ 1 }
+    {
+        self.index.place(id)
+    }
+
+    pub(crate) fn find(&self, id: u32) -> Option<&Thread>
+        ensures { option_copied result ≡ thread_in self.now id }
+    {
+        let place = self.place(id)?;
+        Some(&self.list[place])
     }
 
     pub(crate) fn as_slice(&self) -> &[Thread]
@@ -112,42 +146,63 @@ impl Threads {
     pub(crate) fn change(&mut self, id: u32, change: &Own)
         ensures { self.new ≡ changed id (own change.now) self.old }
     {
-        if let Some(place) = place_in(&self.list, id) {
+        if let Some(place) = self.place(id) {
             change.make(&mut self.list[place]);
         }
     }
 
     /// A thread comes last. Where memory is refused nothing has changed.
     pub(crate) fn add(&mut self, thread: &Thread) -> Result<(), AllocError>
+        requires { thread_in self.old thread.now.id ≡ None }
         ensures ok { OnOk result (self.new ≡ self.old ++ thread.now ∷ []) }
         ensures err { OnErr result (self.new ≡ self.old) }
     {
-        self.list.extend_from_slice(slice::from_ref(thread))
+        self.index.push(thread.id)?;
+        match self.list.extend_from_slice(slice::from_ref(thread)) {
+            Ok(()) => Ok(()),
+            Err(refused) => {
+                self.index.remove(self.list.as_slice().len());
+                Err(refused)
+            }
+        }
     }
 
     /// The record of the first thread with its id.
     pub(crate) fn replace(&mut self, thread: &Thread)
         ensures { self.new ≡ changed thread.now.id (λ _. thread.now) self.old }
     {
-        if let Some(place) = place_in(&self.list, thread.id) {
+        if let Some(place) = self.place(thread.id) {
             self.list[place] = *thread;
         }
+    }
+
+    /// The thread at a place goes, and those after it move up.
+    fn remove_at(&mut self, place: usize)
+        requires { place < length self.old }
+        ensures { self.new ≡ remove self.old place }
+    {
+        let _removed = self.list.remove(place);
+        self.index.remove(place);
     }
 
     /// The first thread with the id goes.
     pub(crate) fn remove(&mut self, id: u32)
         ensures { self.new ≡ dropped id self.old }
     {
-        if let Some(place) = place_in(&self.list, id) {
-            let _removed = self.list.remove(place);
+        if let Some(place) = self.place(id) {
+            self.remove_at(place);
         }
     }
 
-    /// The dead threads with the id go.
+    /// The thread with the id goes if it is dead.
     pub(crate) fn remove_dead(&mut self, id: u32)
         ensures { self.new ≡ filter (λ t. not (t.id == id && is_dead t.life)) self.old }
     {
-        drop_dead(&mut self.list, id);
+        if let Some(place) = self.place(id) {
+            if self.list[place].life.is_dead() {
+                self.remove_at(place);
+            }
+        }
     }
 
     /// A thread takes the place and the id of its dead leader.
@@ -162,7 +217,7 @@ impl Threads {
     pub(crate) fn enter(&mut self, id: u32, number: u64, stop: &Stop)
         ensures { self.new ≡ changed id (entered_as number stop.now) self.old }
     {
-        if let Some(place) = place_in(&self.list, id) {
+        if let Some(place) = self.place(id) {
             self.list[place].enter(stop, number);
         }
     }
@@ -183,7 +238,7 @@ impl Threads {
     pub(crate) fn report(&mut self, id: u32, number: u64, status: &Status)
         ensures { self.new ≡ changed id (reported number status.now) self.old }
     {
-        if let Some(place) = place_in(&self.list, id) {
+        if let Some(place) = self.place(id) {
             self.list[place].set_report(number, status);
         }
     }
@@ -214,32 +269,6 @@ impl Own {
             Own::EndExec => thread.end_exec(),
         }
     }
-}
-
-fn position_of(threads: &[Thread], id: u32) -> Option<usize>
-    ensures { result ≡ position (λ t. t.id == id) threads.now }
-{
-    threads.iter().position(|t| t.id == id)
-}
-
-/// Where the first thread with the id stands.
-#[tactic(auto, using(crate::proofs::Places::is_place))]
-fn place_in(threads: &[Thread], id: u32) -> Option<usize>
-    ensures { IsPlace id threads.now result }
-{
-    position_of(threads, id)
-}
-
-fn is_dead_one(thread: &Thread, id: u32) -> bool
-    ensures { result ≡ (thread.now.id == id && is_dead thread.now.life) }
-{
-    thread.id == id && thread.life.is_dead()
-}
-
-fn drop_dead(threads: &mut Vec<Thread>, id: u32)
-    ensures { threads.new.items ≡ filter (λ t. not (t.id == id && is_dead t.life)) threads.old.items }
-{
-    threads.retain(|t| !is_dead_one(t, id));
 }
 
 /// A dead leader's row becomes that of a thread of its group.
@@ -353,18 +382,12 @@ fn leave_each_for_exec(threads: &mut [Thread], tgid: u32, id: u32, end: &End)
     }
 }
 
-pub(crate) fn find_thread(threads: &[Thread], id: u32) -> Option<&Thread>
-    ensures { option_copied result ≡ thread_in threads.now id }
-{
-    threads.iter().find(|t| t.id == id)
-}
-
-pub(crate) fn owner_of(threads: &[Thread], target: Target) -> u32
+pub(crate) fn owner_of(threads: &Threads, target: Target) -> u32
     ensures { result ≡ owner_in threads.now target }
 {
     match target {
         Target::Group(tgid) => tgid,
-        Target::Thread(id) => match find_thread(threads, id) {
+        Target::Thread(id) => match threads.find(id) {
             Some(thread) => thread.group,
             None => 0,
         },

@@ -7,11 +7,10 @@ ghost use Rattle.tr_pending.specs.Waiting.{best_of, first_of, is_waiting, rather
 ghost use Rattle.tr_table.specs.Queues.{is_of, is_one, without_one};
 ghost use Rattle.tr_table.specs.Changes.{flushes, is_flushed, queue_in};
 
-use crate::threads::owner_of;
+use crate::threads::{Threads, owner_of};
 use tr_model::{Ending, Fate, Target, Waiting};
 use tr_pending::Instance;
 use tr_sigset::{SigSet, Signal};
-use tr_tracee::Thread;
 
 /// Which pending signals of a group are flushed.
 #[derive(Clone, Copy, Debug)]
@@ -34,7 +33,7 @@ fn flushes(flush: &Flush, signal: Signal) -> bool
     }
 }
 
-fn is_flushed(threads: &[Thread], tgid: u32, flush: &Flush, waiting: &Waiting) -> bool
+fn is_flushed(threads: &Threads, tgid: u32, flush: &Flush, waiting: &Waiting) -> bool
     ensures { result ≡ is_flushed threads.now tgid flush.now waiting.now }
 {
     flushes(flush, waiting.instance.sig) && owner_of(threads, waiting.target) == tgid
@@ -44,7 +43,7 @@ fn is_flushed(threads: &[Thread], tgid: u32, flush: &Flush, waiting: &Waiting) -
 pub(crate) fn log_flushed(
     ended: &mut Vec<Ending>,
     waiting: &[Waiting],
-    threads: &[Thread],
+    threads: &Threads,
     tgid: u32,
     flush: &Flush,
 )
@@ -64,7 +63,7 @@ pub(crate) fn log_flushed(
 }
 
 /// Drops what is flushed.
-pub(crate) fn drop_flushed(waiting: &mut Vec<Waiting>, threads: &[Thread], tgid: u32, flush: &Flush)
+pub(crate) fn drop_flushed(waiting: &mut Vec<Waiting>, threads: &Threads, tgid: u32, flush: &Flush)
     ensures items { waiting.new.items ≡ filter (λ q. not (is_flushed threads.now tgid flush.now q)) waiting.old.items }
     ensures capacity { vec_capacity waiting.new ≡ vec_capacity waiting.old }
     ensures len { vec_len waiting.new ≤ vec_len waiting.old }

@@ -12,7 +12,7 @@ returns-clause-free c =
     let i = c.self.inside in
     let T : Table = record { threads = i.threads; groups = i.groups; waiting = i.waiting.items; accepted = i.accepted; raised = i.raised; limit = i.limit; entries = i.entries } in
     let a = c.free_in.ensures in
-    let b : c.free_in.result ≡ new_id (ids_table i.threads i.groups) c.args.above = a ∙ ap (λ ts. new_id (ids_table ts i.groups) c.args.above) c.as_slice.ensures in
+    let b : c.free_in.result ≡ new_id (ids_table i.threads i.groups) c.args.above = a in
     let d : c.free_in.result ≡ new_id T c.args.above = b ∙ same_new_id T c.args.above in
     subst (λ (v : View). c.free_in.result ≡ new_id v.table c.args.above) c.self.view_is d
 

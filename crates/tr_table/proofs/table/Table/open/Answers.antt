@@ -8,6 +8,9 @@ use Rattle.tr_table.proofs.table.Table.open.Goals as goal
 pub started_groups-requires : goal.started_groups-requires
 started_groups-requires c = rw c.as_slice-2.ensures (good_names_fit c.args.start.now c.requires)
 
+pub started_threads-requires : goal.started_threads-requires
+started_threads-requires c = rw c.as_slice.ensures (roster_started c.args.start.now c.requires).distinct
+
 pub from_vec-requires-clause-once : goal.from_vec-requires-clause-once
 from_vec-requires-clause-once c =
     let e : c.in_ok-started_groups.field-0.items ≡ map group_started c.args.start.now.groups = c.in_ok-started_groups.ensures ∙ ap (map group_started) c.as_slice-2.ensures in

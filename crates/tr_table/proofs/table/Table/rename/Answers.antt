@@ -9,7 +9,7 @@ use Rattle.tr_table.proofs.table.Table.rename.Goals as goal
 pub invariant_of-self : goal.invariant_of-self
 invariant_of-self c =
     let t = c.in-Some.thread.now in
-    let there : thread_in c.self.inside.threads c.args.id ≡ Some t = ap (λ ts. thread_in ts c.args.id) (sym c.as_slice.ensures) ∙ (sym c.find_thread.ensures ∙ ap option_copied c.in-Some.is) in
+    let there : thread_in c.self.inside.threads c.args.id ≡ Some t = sym c.find.ensures ∙ ap option_copied c.in-Some.is in
     rw (c.reaim.ensures.items, c.take_place.ensures) (record {
       roster = roster_placed t _ (itself _ c.args.id t there) c.self.invariant.roster;
       few = c.self.invariant.few;
