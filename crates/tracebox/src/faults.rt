@@ -1,9 +1,10 @@
-ghost use Rattle.std.specs.Prelude.{◌≡◌};
+ghost use Rattle.std.specs.Prelude.{◌≡◌, ◌≢◌};
 ghost use Rattle.tr_scenario.specs.declared.faults.ScenarioFault.TheVariants as scenario;
-ghost use Rattle.tracebox.specs.declared.faults.Fault.TheVariants.{Scenario};
+ghost use Rattle.tracebox.specs.declared.faults.Fault.TheVariants.{Scenario, Usage};
 ghost use Rattle.tracebox.specs.Faults.{fault_name, fault_status, scenario_fault_name};
 
 use std::alloc::AllocError;
+use std::io::ErrorKind;
 use tr_scenario::ScenarioFault;
 use tr_status::Failed;
 
@@ -82,5 +83,16 @@ fn scenario_fault_name(fault: ScenarioFault) -> &'static str
         ScenarioFault::NoMemory => "NoMemory",
         ScenarioFault::ReadFault => "ReadFault",
         ScenarioFault::WriteFault => "WriteFault",
+    }
+}
+
+/// Why the words of a command line can't be had.
+pub(crate) fn words_fault(kind: ErrorKind) -> Fault
+    ensures memory { kind ≡ ErrorKind.OutOfMemory → result ≡ Scenario scenario.NoMemory }
+    ensures usage { kind ≢ ErrorKind.OutOfMemory → result ≡ Usage }
+{
+    match kind {
+        ErrorKind::OutOfMemory => Fault::Scenario(ScenarioFault::NoMemory),
+        _ => Fault::Usage,
     }
 }

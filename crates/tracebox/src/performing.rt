@@ -1,12 +1,16 @@
-ghost use Rattle.std.specs.Prelude.{◌≡◌, ◌+◌, ◌<◌, ◌-◌, ◌^◌, map};
+ghost use Rattle.std.specs.Prelude.{◌≡◌, ◌≢◌, ◌+◌, ◌<◌, ◌-◌, ◌^◌, Err, IfErr, IfOk, map};
+ghost use Rattle.std.specs.IoError.{error_kind};
+ghost use Rattle.tr_scenario.specs.declared.faults.ScenarioFault.TheVariants as scenario;
+ghost use Rattle.tracebox.specs.declared.faults.Fault.TheVariants.{Scenario, Usage};
 ghost use Rattle.tracebox.specs.Faults.{fault_status};
-ghost use Rattle.tracebox.specs.Performing.{Attempts, Declines, Decodes, Performs, Says, Tells};
+ghost use Rattle.tracebox.specs.Performing.{Attempts, Declines, Decodes, Ends, Performs, Says, Tells};
 
 use crate::asking::{Ask, AskFault, Declined, asked};
-use crate::faults::Fault;
+use crate::faults::{Fault, words_fault};
 use crate::meanings::{put_line, write_meaning};
 use std::alloc::Global;
 use std::convert::AsStr;
+use std::io::{self, ErrorKind};
 use std::sync::Wait;
 use std::thread::Threads;
 use tr_scenario::{ScenarioFault, Source, serial, threaded};
@@ -33,6 +37,30 @@ pub fn perform<T: AllocGlobal + Threads + Wait + Sync, S: AsStr, R: Source, W: S
     match attempt(rt, rt.alloc(), words, reader, writer) {
         Ok(()) => 0,
         Err(fault) => report(fault, faults),
+    }
+}
+
+/// Performs the words of a command line, where they could be had. Else nothing is read or written: it is want of memory, or
+/// `Usage` where a word isn't UTF-8.
+pub fn perform_words<
+    T: AllocGlobal + Threads + Wait + Sync,
+    S: AsStr + Drop,
+    R: Source,
+    W: Sink,
+    E: Sink,
+>(rt: &T, words: io::Result<Vec<S>>, reader: &mut R, writer: &mut W, faults: &mut E) -> u8
+    requires failures { (R.shown reader.old).failures < 2 ^ 64 - 1 }
+    requires interruptions { (R.shown reader.old).interruptions + 1048576 < 2 ^ 64 }
+    requires room { W.failures writer.old < 2 ^ 64 - 1 }
+    requires faults { E.failures faults.old < 2 ^ 64 - 1 }
+    ensures performs { IfOk words (λ v. Performs R.shown W.taken W.failures E.taken E.failures (map S.text v.items) reader.old reader.new writer.old writer.new faults.old faults.new result) }
+    ensures memory { IfErr words (λ e. error_kind e ≡ ErrorKind.OutOfMemory → Ends E.taken E.failures faults.old faults.new (Err (Scenario scenario.NoMemory)) result) }
+    ensures usage { IfErr words (λ e. error_kind e ≢ ErrorKind.OutOfMemory → Ends E.taken E.failures faults.old faults.new (Err Usage) result) }
+    ensures same { IfErr words (λ _. (reader.new ≡ reader.old) × (writer.new ≡ writer.old)) }
+{
+    match words {
+        Ok(words) => perform(rt, words.as_slice(), reader, writer, faults),
+        Err(error) => report(words_fault(error.kind()), faults),
     }
 }
 

@@ -5,13 +5,15 @@ mod runs;
 mod stored;
 mod threads;
 
-use super::*;
+use crate::faults::Fault;
+use crate::performing::perform;
 use devices::{SOUND, Ways, blank_page, new_feed};
 use std::fmt::Debug;
 use std::process::Abort;
 use std::sync::Wait;
 use std::test::Fail;
 use std::thread::Threads;
+use tr_scenario::ScenarioFault;
 
 /// What a command line is performed with, and what a test fails by.
 trait Machine: Abort + AllocGlobal + Threads + Wait + Sync {}
