@@ -2,12 +2,12 @@
 use Rattle.std.specs.Prelude.{ℕ, zero, suc, List, [], ◌∷◌, ◌++◌, Bool, Option, Some, None, if◌then◌else◌}
 use Rattle.tr_pending.specs.declared.instance.Instance.{Instance}
 use Rattle.tr_tracee.specs.declared.thread.Thread.{Thread}
-use Rattle.tr_tracee.specs.Ends.{broken}
+use Rattle.tr_tracee.specs.Ends.{begun_to_leave}
 use Rattle.tr_tracee.specs.Lives.{held}
 use Rattle.tr_tracee.specs.Marks.{cont_noted, continued, marked, noted}
 use Rattle.tr_tracee.specs.Threads.{in_group}
-use Rattle.tr_group.specs.declared.members.Change.{Change}
-use Rattle.tr_group.specs.declared.members.Change.TheVariants as change
+use Rattle.tr_group.specs.declared.members.MemberChange.{MemberChange}
+use Rattle.tr_group.specs.declared.members.MemberChange.TheVariants as change
 
 -- how many threads the group has
 abbrev pub count_in : ℕ → List Thread → ℕ
@@ -39,11 +39,11 @@ abbrev pub continued_by : Bool → Thread → Thread
 continued_by in_effect t = if in_effect then continued (noted t) else noted t
 
 -- what the change makes of one thread of the group
-abbrev pub applied : Change → Thread → Thread
+abbrev pub applied : MemberChange → Thread → Thread
 applied change.Mark t = marked t
 applied (change.Continue in_effect) t = continued_by in_effect t
 applied change.NoteCont t = cont_noted t
-applied (change.Leave kill end) t = broken kill end t
+applied (change.Leave kill end) t = begun_to_leave kill end t
 
 -- the number of the instance that a signal-delivery-stop holds, if there is one
 abbrev pub number_held : Option Instance → List ℕ

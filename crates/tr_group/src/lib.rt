@@ -6,7 +6,7 @@ mod members;
 mod stops;
 
 pub use members::{
-    Change, Members, begin_death, change_each, continue_all, initiate, leave_all, note_cont,
+    MemberChange, Members, begin_death, change_each, continue_all, initiate, leave_all, note_cont,
 };
 pub use stops::{Action, GroupStop};
 

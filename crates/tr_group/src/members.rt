@@ -1,9 +1,9 @@
 ghost use Rattle.std.specs.Prelude.{◌≡◌, ◌+◌, ◌<◌, ◌≤◌, ◌++◌, List, Some, length, map, vec_len, vec_capacity};
 ghost use Rattle.tr_group.specs.Members.{applied, continued_by, count_in, held_in, member, number_held, put_member};
 ghost use Rattle.tr_tracee.specs.Lives.{held};
-ghost use Rattle.tr_tracee.specs.Threads.{throughout};
+ghost use Rattle.tr_tracee.specs.Threads.{at_group};
 ghost use Rattle.tr_tracee.specs.Marks.{cont_noted, marked};
-ghost use Rattle.tr_tracee.specs.Ends.{broken};
+ghost use Rattle.tr_tracee.specs.Ends.{begun_to_leave};
 ghost use Rattle.tr_tracee.specs.declared.thread.Thread.{Thread};
 
 use tr_tracee::{End, Thread};
@@ -29,13 +29,13 @@ pub trait Members {
         ensures { threads self.new ≡ put_member tgid i thread (threads self.old) };
 
     /// Makes a change of each thread of the group, in one walk.
-    fn change_all(&mut self, tgid: u32, change: &Change)
-        ensures { threads self.new ≡ map (throughout tgid (applied change.now)) (threads self.old) };
+    fn change_all(&mut self, tgid: u32, change: &MemberChange)
+        ensures { threads self.new ≡ map (at_group tgid (applied change.now)) (threads self.old) };
 }
 
 /// What happens to each thread of a group.
 #[derive(Clone, Copy, Debug)]
-pub enum Change {
+pub enum MemberChange {
     /// The stop mark is set where a thread is live and takes no part in the group-stop yet.
     Mark,
     /// A SIGCONT came; true where a group-stop is in effect.
@@ -46,7 +46,7 @@ pub enum Change {
     Leave(bool, End),
 }
 
-impl Change {
+impl MemberChange {
     ghost use Rattle.tr_group.specs.Members.{applied};
 
     /// Changes the record of a thread.
@@ -54,21 +54,21 @@ impl Change {
         ensures { thread.new ≡ applied self.now thread.old }
     {
         match self {
-            Change::Mark => thread.mark(),
-            Change::Continue(in_effect) => {
+            MemberChange::Mark => thread.mark(),
+            MemberChange::Continue(in_effect) => {
                 thread.note();
                 if *in_effect {
                     thread.continue_one();
                 }
             }
-            Change::NoteCont => thread.note_cont(),
-            Change::Leave(kill, end) => thread.begin_to_leave(*kill, end),
+            MemberChange::NoteCont => thread.note_cont(),
+            MemberChange::Leave(kill, end) => thread.begin_to_leave(*kill, end),
         }
     }
 }
 
-fn change_one(thread: &mut Thread, tgid: u32, change: &Change)
-    ensures { thread.new ≡ throughout tgid (applied change.now) thread.old }
+fn change_one(thread: &mut Thread, tgid: u32, change: &MemberChange)
+    ensures { thread.new ≡ at_group tgid (applied change.now) thread.old }
 {
     if thread.group == tgid {
         change.make(thread);
@@ -76,8 +76,8 @@ fn change_one(thread: &mut Thread, tgid: u32, change: &Change)
 }
 
 /// Makes a change of each thread of a group in a list: what `change_all` is where all threads stand in one.
-pub fn change_each(threads: &mut [Thread], tgid: u32, change: &Change)
-    ensures { threads.new ≡ map (throughout tgid (applied change.now)) threads.old }
+pub fn change_each(threads: &mut [Thread], tgid: u32, change: &MemberChange)
+    ensures { threads.new ≡ map (at_group tgid (applied change.now)) threads.old }
 {
     for thread in threads.iter_mut() {
         change_one(thread, tgid, change);
@@ -86,24 +86,24 @@ pub fn change_each(threads: &mut [Thread], tgid: u32, change: &Change)
 
 /// A group-stop begins: each live thread of the group that takes no part in it yet gets the stop mark.
 pub fn initiate<M: Members>(members: &mut M, tgid: u32)
-    ensures { M.threads members.new ≡ map (throughout tgid marked) (M.threads members.old) }
+    ensures { M.threads members.new ≡ map (at_group tgid marked) (M.threads members.old) }
 {
-    members.change_all(tgid, &Change::Mark);
+    members.change_all(tgid, &MemberChange::Mark);
 }
 
 /// A SIGCONT came: each live seized thread of the group gets the note mark, and where a group-stop is in effect its
 /// stop marks go, nobody takes part in it any more and stopped threads run.
 pub fn continue_all<M: Members>(members: &mut M, tgid: u32, in_effect: bool)
-    ensures { M.threads members.new ≡ map (throughout tgid (continued_by in_effect)) (M.threads members.old) }
+    ensures { M.threads members.new ≡ map (at_group tgid (continued_by in_effect)) (M.threads members.old) }
 {
-    members.change_all(tgid, &Change::Continue(in_effect));
+    members.change_all(tgid, &MemberChange::Continue(in_effect));
 }
 
 /// A SIGCONT came: each signal-delivery-stop of the group notes it.
 pub fn note_cont<M: Members>(members: &mut M, tgid: u32)
-    ensures { M.threads members.new ≡ map (throughout tgid cont_noted) (M.threads members.old) }
+    ensures { M.threads members.new ≡ map (at_group tgid cont_noted) (M.threads members.old) }
 {
-    members.change_all(tgid, &Change::NoteCont);
+    members.change_all(tgid, &MemberChange::NoteCont);
 }
 
 /// The group begins to die: each of its threads that isn't dead begins to leave with this end; told where `kill` says
@@ -117,7 +117,7 @@ pub fn begin_death<M: Members>(
     gone: &mut Vec<u64>,
 )
     requires { vec_len gone.old + length (held_in tgid (M.threads members.old)) ≤ vec_capacity gone.old }
-    ensures threads { M.threads members.new ≡ map (throughout tgid (broken kill end.now)) (M.threads members.old) }
+    ensures threads { M.threads members.new ≡ map (at_group tgid (begun_to_leave kill end.now)) (M.threads members.old) }
     ensures gone { gone.new.items ≡ gone.old.items ++ held_in tgid (M.threads members.old) }
     ensures capacity { vec_capacity gone.new ≡ vec_capacity gone.old }
 {
@@ -128,9 +128,9 @@ pub fn begin_death<M: Members>(
 /// Each thread of the group that isn't dead begins to leave with this end, as when the group begins to die; told where
 /// `kill` says that KILL did it. What they hold is the caller's to tell first.
 pub fn leave_all<M: Members>(members: &mut M, tgid: u32, kill: bool, end: &End)
-    ensures { M.threads members.new ≡ map (throughout tgid (broken kill end.now)) (M.threads members.old) }
+    ensures { M.threads members.new ≡ map (at_group tgid (begun_to_leave kill end.now)) (M.threads members.old) }
 {
-    members.change_all(tgid, &Change::Leave(kill, *end));
+    members.change_all(tgid, &MemberChange::Leave(kill, *end));
 }
 
 /// Appends the numbers that the threads of a group hold.

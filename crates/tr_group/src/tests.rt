@@ -30,7 +30,7 @@ impl Members for Roster {
         self.all[place] = thread;
     }
 
-    fn change_all(&mut self, tgid: u32, change: &Change) {
+    fn change_all(&mut self, tgid: u32, change: &MemberChange) {
         change_each(&mut self.all, tgid, change);
     }
 }

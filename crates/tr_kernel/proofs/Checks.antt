@@ -12,7 +12,7 @@ use Rattle.tr_model.specs.declared.replies.Reply.{Reply}
 use Rattle.tr_pending.specs.declared.instance.Instance.{Instance}
 use Rattle.tr_tracee.specs.declared.thread.Thread.{Thread}
 use Rattle.tr_model.specs.declared.events.Event.TheVariants.{CloneThread, StarterWait, Take, TakeAny, Wait}
-use Rattle.tr_model.specs.Causes.{at_limit, can_take_thread, cause_of, first, nothing_where, quiet_of, script, thread_then, where_is}
+use Rattle.tr_model.specs.Causes.{at_limit, can_take_thread, cause_of, first_cause, nothing_where, quiet_of, refused_if, script, thread_then}
 use Rattle.tr_model.specs.Steps.{gives_id, gives_report, takes_by, takes_instance}
 use Rattle.tr_model.specs.Takes.{can_take, is_empty}
 use Rattle.tr_model.proofs.Takable.{can_take_best}
@@ -110,7 +110,7 @@ take_any_numbered T a g c q p = go (members T g) q p
 pub clone_numbered : (T : Table) (a tid : ℕ) (c : Choice) → cause_of T a (CloneThread tid) ≡ None → c ≡ preferred T a (CloneThread tid) → (id : ℕ) × (c ≡ gives_id id)
 clone_numbered T a tid c q p = go (thread_of T tid) q p
   where
-    go : (o : Option Thread) → first (thread_then o (λ t. script T t ++ where_is (at_limit T t) Again ∷ [])) ≡ None → c ≡ clone_choice T o → (id : ℕ) × (c ≡ gives_id id)
+    go : (o : Option Thread) → first_cause (thread_then o (λ t. script T t ++ refused_if (at_limit T t) Again ∷ [])) ≡ None → c ≡ clone_choice T o → (id : ℕ) × (c ≡ gives_id id)
     go None q p = absurd cc
     go (Some t) q p = (new_id T t.group, p)
 

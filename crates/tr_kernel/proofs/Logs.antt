@@ -7,7 +7,7 @@ use Rattle.tr_model.specs.declared.events.Choice.{Choice}
 use Rattle.tr_model.specs.declared.events.Entry.{Entry}
 use Rattle.tr_model.specs.declared.events.Event.{Event}
 use Rattle.tr_model.specs.declared.events.Event.TheVariants as event
-use Rattle.tr_model.specs.Moves.{at, begin, on_thread, placed, take_place}
+use Rattle.tr_model.specs.Moves.{at, begin, on_thread, take_place, with_leaders_row}
 use Rattle.tr_model.specs.Steps.{work_of}
 use Rattle.tr_model.specs.Tables.{Table, thread_of}
 use Rattle.tr_model.proofs.Bounds.{cost_of, entry_bound, finish_renames, renames_nothing}
@@ -35,7 +35,7 @@ passed_by T _ = []
 finished : (T : Table) (id : ℕ) → (at id (λ t. take_place t.id) (begin T)).renamed ≡ passed_id (thread_of T id)
 finished T id = go (thread_of T id) refl
   where
-    placing : (t : Thread) (b : Bool) → (if b then placed t (begin T) else begin T).renamed ≡ (if b then t.group ∷ [] else [])
+    placing : (t : Thread) (b : Bool) → (if b then with_leaders_row t (begin T) else begin T).renamed ≡ (if b then t.group ∷ [] else [])
     placing t true = refl
     placing t false = refl
 

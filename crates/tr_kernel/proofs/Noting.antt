@@ -41,12 +41,12 @@ passes_same ids ps h (target.Thread id) = h id
 passes_same ids ps h (target.Group g) = refl
 
 take_marked : (T : Table) (ids : List ℕ) (ps : List Passed) → ((n : ℕ) → times n ps ≡ occurs n ids) → IsSorted T.waiting → (id n : ℕ) → IsDue T id n
-    → mark_after Nothing (queue_of (taken_by T (thread_of T id) n)) ps (Steps.took T (thread_of T id) (instance_in T.waiting n)) ≡ take_mark ids (taken_by T (thread_of T id) n)
+    → mark_after Nothing (queue_of (taken_by T (thread_of T id) n)) ps (Steps.took_reply T (thread_of T id) (instance_in T.waiting n)) ≡ take_mark ids (taken_by T (thread_of T id) n)
 take_marked T ids ps h s id n d =
     let b = best_is_chosen T d.thread d.instance s d.best in
     let i : instance_in T.waiting n ≡ Some d.instance = ap (instance_in T.waiting) (sym d.number) ∙ b.waits in
     let k = ap (λ o. taken_by T o n) d.there ∙ (ap (taken_by T (Some d.thread)) (sym d.number) ∙ b.taken) in
-    let r : Steps.took T (thread_of T id) (instance_in T.waiting n) ≡ reply.Took d.thread.id d.instance (Takes.took T d.thread d.instance) = ap₂ (Steps.took T) d.there i in
+    let r : Steps.took_reply T (thread_of T id) (instance_in T.waiting n) ≡ reply.Took d.thread.id d.instance (Takes.did_at_take T d.thread d.instance) = ap₂ (Steps.took_reply T) d.there i in
     let q = Takes.taken_from (best_of d.thread.mask (queue T (target.Thread d.thread.id))) d.thread in
     ap₂ (λ x o. mark_after Nothing (queue_of o) ps x) r k
     ∙ (ap (λ p. Take (record { number = d.instance.n; signal = d.instance.sig; queue = q; passed = p })) (passes_same ids ps h q) ∙ sym (ap (take_mark ids) k))

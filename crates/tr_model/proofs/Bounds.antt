@@ -71,8 +71,8 @@ notes_stop : (g : ℕ) (o : Option ℕ) (w : Work) → Bound (cost 0 1 0 0) w (G
 notes_stop g None w = none w
 notes_stop g (Some s) w = branch w _ _ w (notes g (status.Stopped s) w) (none w)
 
-settles_group : (g : ℕ) (w : Work) → Bound (cost 0 1 0 0) w (GroupStops.settle_group g w)
-settles_group g w = branch w _ _ w (after_still w _ _ (regroups _ w) (notes_stop g _ (Moves.regroup (Moves.only_group g GroupStops.full) w))) (none w)
+settles_group : (g : ℕ) (w : Work) → Bound (cost 0 1 0 0) w (GroupStops.complete_group_stop g w)
+settles_group g w = branch w _ _ w (after_still w _ _ (regroups _ w) (notes_stop g _ (Moves.regroup (Moves.only_group g GroupStops.completed_group) w))) (none w)
 
 -- moves of one cost
 each : {c : Cost} (move : ℕ → Work → Work) → ((x : ℕ) (w : Work) → Bound c w (move x w)) → (xs : List ℕ) (w : Work) → Bound (times (length xs) c) w (Moves.each xs move w)
@@ -84,15 +84,15 @@ each {c = c} move h (x ∷ xs) w =
     one_more : (k : ℕ) → k + length xs * k ≤ suc (length xs) * k
     one_more k = omega (arith, suc-mul (length xs) k)
 
-settles : (w : Work) → Bound (cost 0 (length w.table.groups) 0 0) w (GroupStops.settle w)
+settles : (w : Work) → Bound (cost 0 (length w.table.groups) 0 0) w (GroupStops.complete_group_stops w)
 settles w =
     within (record { accepted = omega arith; raised = omega (arith, length-map w.table.groups (λ (x : Group). x.tgid)); added = omega arith; begun = omega arith; passes = λ e. refl })
-    (each GroupStops.settle_group settles_group (map (λ x. x.tgid) w.table.groups) w)
+    (each GroupStops.complete_group_stop settles_group (map (λ x. x.tgid) w.table.groups) w)
 
 deaths : (g : ℕ) (e : End) (kill : Bool) (w : Work) → Bound (cost 0 0 0 1) w (Deaths.begin_death g e kill w)
 deaths g e kill w =
     let v = Moves.regroup (Moves.only_group g (Deaths.dying_with e)) w in
-    let p = becomes Flushed (Threads.throughout g (TraceeEnds.broken kill (Deaths.first_end (Tables.group_end w.table g) e))) v in
+    let p = becomes Flushed (Threads.at_group g (TraceeEnds.begun_to_leave kill (Deaths.first_end (Tables.group_end w.table g) e))) v in
     after_still w v _ (regroups _ w) (record {
       accepted_grows = p.accepted_grows;
       accepts = p.accepts;
@@ -161,13 +161,13 @@ stops_with t s w = enters t.id (if Threads.seized t.trace then stop.Event (stop_
 
 halts : (t : Thread) (w : Work) → Bound (cost 0 1 0 0) w (Stops.halt t w)
 halts t w =
-    let v = Moves.alter (Threads.only t.id Marks.joining) w in
+    let v = Moves.alter (Threads.at_thread t.id Marks.joining) w in
     branch w (Threads.is_traced t) _ _ (after_still w v _ (alters _ w) (at_stops (Tables.stop_in_effect v.table t.group) (Stops.stop_with t) v (λ s. stops_with t s v)))
     (less (after_still w v _ (alters _ w) (alters _ v)) refl)
 
 traps : (t : Thread) (o : Option ℕ) (w : Work) → Bound (cost 0 1 0 0) w (Stops.trap_at t o w)
 traps t None w = enters t.id _ w
-traps t (Some s) w = after_still w (Moves.alter (Threads.only t.id Marks.joining) w) _ (alters _ w) (enters t.id _ _)
+traps t (Some s) w = after_still w (Moves.alter (Threads.at_thread t.id Marks.joining) w) _ (alters _ w) (enters t.id _ _)
 
 shows : (t : Thread) (w : Work) → Bound (cost 0 1 0 0) w (Stops.show_stop t w)
 shows t w = branch w (Lives.is_stopped t.life) _ w (ats t.id (λ u. Stops.at_stop (Tables.stop_in_effect w.table t.group) (Stops.stop_with u)) w (λ u. at_stops (Tables.stop_in_effect w.table t.group) (Stops.stop_with u) w (λ s. stops_with u s w))) (none w)
@@ -176,10 +176,10 @@ shows t w = branch w (Lives.is_stopped t.life) _ w (ats t.id (λ u. Stops.at_sto
 
 exits : (t : Thread) (code : ℕ) (w : Work) → Bound (cost 0 1 0 0) w (Ends.exit t code w)
 exits t code w =
-    let v = Moves.alter (Threads.only t.id TraceeEnds.unmarked) w in
+    let v = Moves.alter (Threads.at_thread t.id TraceeEnds.unmarked) w in
     after_still w v _ (alters _ w) (branch v _ _ _ (enters t.id _ v) (less (alters _ v) refl))
 
-lasts : (g : ℕ) (w : Work) → Bound (cost 0 1 0 0) w (Ends.last g w)
+lasts : (g : ℕ) (w : Work) → Bound (cost 0 1 0 0) w (Ends.report_if_last g w)
 lasts g w =
     let v = Moves.end_waiting Flushed (λ q. Tables.same_target (target.Group g) q.target) w in
     branch w _ _ w (after_still w v _ (ends_waiting Flushed (λ q. Tables.same_target (target.Group g) q.target) w) (ats g Ends.report_leader v (λ t. reports t.id _ v))) (none w)
@@ -189,8 +189,8 @@ buries t e w = branch w (Threads.is_leader t) w _ (none w) (branch w (Threads.is
 
 dies : (t : Thread) (l : Life) (w : Work) → Bound (cost 0 2 0 0) w (Ends.die t l w)
 dies t (life.Leaving e told) w =
-    let u = Moves.alter (Threads.only t.id TraceeEnds.dead) w in
-    let v = Ends.dead_now t w in
+    let u = Moves.alter (Threads.at_thread t.id TraceeEnds.dead) w in
+    let v = Ends.die_and_flush t w in
     branch w told _ _
     (after_still w v _ (after_still w u v (alters _ w) (ends_waiting Flushed (λ q. Tables.same_target (target.Thread t.id) q.target) u))
     (chain v (Ends.bury t e v) _ (buries t e v) (lasts t.group (Ends.bury t e v))))
@@ -207,7 +207,7 @@ removes_thread t w = after_still w _ _ (removes (λ x. x.id == t.id) w) (drops t
 
 passes_on : (t : Thread) (o : Option Report) (w : Work) → Bound (cost 0 1 0 0) w (Ends.pass_on t o w)
 passes_on t None w = less (alters _ w) refl
-passes_on t (Some r) w = after_still w (Moves.alter (Threads.only t.id TraceeEnds.released) w) _ (alters _ w) (reports t.id _ _)
+passes_on t (Some r) w = after_still w (Moves.alter (Threads.at_thread t.id TraceeEnds.released) w) _ (alters _ w) (reports t.id _ _)
 
 -- Requests
 
@@ -302,7 +302,7 @@ cost_of (event.CloneThread id) n = cost 1 2 1 1
 cost_of (event.Finish id) n = both passing (cost 1 2 0 1)
 cost_of _ n = cost 1 2 0 1
 
-does_bound : (T : Table) (a : ℕ) (e : Event) (c : Choice) → Bound (cost_of e (length T.threads)) (Moves.begin T) (Steps.does a e c (Moves.begin T))
+does_bound : (T : Table) (a : ℕ) (e : Event) (c : Choice) → Bound (cost_of e (length T.threads)) (Moves.begin T) (Steps.work_of_event a e c (Moves.begin T))
 does_bound T a (event.Kill g s) c = less (sends s _ (target.Group g) (Moves.begin T)) refl
 does_bound T a (event.Tgkill g id s) c = less (sends s _ (target.Thread id) (Moves.begin T)) refl
 does_bound T a (event.Sigqueue g s v) c = less (sends s _ (target.Group g) (Moves.begin T)) refl
@@ -335,7 +335,7 @@ does_bound T a (event.StarterWait which flags) c = less (starter_takings _ _ (Mo
 pub entry_bound : (T : Table) (e : Entry) → Bound (both (cost_of e.event (length T.threads)) (cost 0 (length T.groups) 0 0)) (Moves.begin T) (Steps.work_of T e)
 entry_bound T e =
     let d = does_bound T e.actor e.event e.choice in
-    let v = Steps.does e.actor e.event e.choice (Moves.begin T) in
+    let v = Steps.work_of_event e.actor e.event e.choice (Moves.begin T) in
     within (record { accepted = omega arith; raised = omega (arith, d.groups); added = omega arith; begun = omega arith; passes = λ h. h }) (chain (Moves.begin T) v (Steps.work_of T e) d (settles v))
 
 -- where no id may pass to another thread, none does
@@ -349,7 +349,7 @@ finish_renames T a id c = (settles (Moves.at id Execs.finish (Moves.begin T))).r
     go : (o : Option Thread) → (Moves.on_thread o Execs.finish (Moves.begin T)).renamed ≡ (Moves.on_thread o (λ t. Moves.take_place t.id) (Moves.begin T)).renamed
     go None = refl
     go (Some t) =
-        let v = Moves.alter (Threads.only t.group TraceeEnds.execed) (Moves.take_place t.id (Moves.begin T)) in
+        let v = Moves.alter (Threads.at_thread t.group TraceeEnds.execed) (Moves.take_place t.id (Moves.begin T)) in
         let p = ats t.group (Execs.new_program t.id) v (λ x. new_programs t.id x v) in
         p.renamed refl
 
@@ -360,7 +360,7 @@ record IsSmall (T : Table) : Type 0 where
   groups : length T.groups ≤ 1024
 
 -- a clone is refused at the limit
-third_false : (a b c : Bool) → Causes.first (Causes.unless a NotRunning ∷ Causes.where_is b Busy ∷ Causes.where_is c Again ∷ []) ≡ None → c ≡ false
+third_false : (a b c : Bool) → Causes.first_cause (Causes.unless a NotRunning ∷ Causes.refused_if b Busy ∷ Causes.refused_if c Again ∷ []) ≡ None → c ≡ false
 third_false true false false e = refl
 third_false true false true e = cc
 third_false true true c e = cc
@@ -369,7 +369,7 @@ third_false false b c e = cc
 below : (n : ℕ) → nat_le 1024 n ≡ false → n < 1024
 below n e = grind (arith, nat_tests)
 
-room_for : (T : Table) (o : Option Thread) → Causes.first (Causes.thread_then o (λ t. Causes.script T t ++ Causes.where_is (Causes.at_limit T t) Again ∷ [])) ≡ None → length T.threads < 1024
+room_for : (T : Table) (o : Option Thread) → Causes.first_cause (Causes.thread_then o (λ t. Causes.script T t ++ Causes.refused_if (Causes.at_limit T t) Again ∷ [])) ≡ None → length T.threads < 1024
 room_for T None e = cc
 room_for T (Some t) e = below (length T.threads) (neither _ _ (third_false _ _ (Causes.at_limit T t) e)).0
 

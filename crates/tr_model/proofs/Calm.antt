@@ -77,10 +77,10 @@ choose : (b : Bool) (t u : Thread) → Tame t u → Tame t (if b then u else t)
 choose true t u h = h
 choose false t u h = aside t t refl refl refl refl refl
 
-pub tame_only : (id : ℕ) (f : Thread → Thread) → ((t : Thread) → Tame t (f t)) → (t : Thread) → Tame t (Threads.only id f t)
+pub tame_only : (id : ℕ) (f : Thread → Thread) → ((t : Thread) → Tame t (f t)) → (t : Thread) → Tame t (Threads.at_thread id f t)
 tame_only id f h t = choose (t.id == id) t (f t) (h t)
 
-pub tame_throughout : (g : ℕ) (f : Thread → Thread) → ((t : Thread) → Tame t (f t)) → (t : Thread) → Tame t (Threads.throughout g f t)
+pub tame_throughout : (g : ℕ) (f : Thread → Thread) → ((t : Thread) → Tame t (f t)) → (t : Thread) → Tame t (Threads.at_group g f t)
 tame_throughout g f h t = choose (t.group == g) t (f t) (h t)
 
 stopped_tame : (l : Life) → TameLife l (Marks.stopped_life l)
@@ -169,7 +169,7 @@ tame_leaving s t = by_life _ _ refl refl (leaving_tame s t.life) refl refl
 pub tame_dead : (t : Thread) → Tame t (TraceeEnds.dead t)
 tame_dead t = by_life _ _ refl refl (dead_tame t.life) refl refl
 
-pub tame_told_nothing : (t : Thread) → Tame t (TraceeStops.told_nothing t)
+pub tame_told_nothing : (t : Thread) → Tame t (TraceeStops.without_report t)
 tame_told_nothing t = record { calm = record { id = refl; group = refl; holds = inr refl; reports = inl refl; told = λ h. h }; holds = refl; stops = λ h. h; stays = λ a h k. (h, k) }
 
 dead_not_in_stop : (l : Life) → Lives.is_dead l ≡ true → Lives.is_in_stop l ≡ true → ⊥
@@ -203,10 +203,10 @@ choose_calm : (b : Bool) (t u : Thread) → Calm t u → Calm t (if b then u els
 choose_calm true t u h = h
 choose_calm false t u h = calm_same t
 
-pub calm_only : (id : ℕ) (f : Thread → Thread) → ((t : Thread) → Calm t (f t)) → (t : Thread) → Calm t (Threads.only id f t)
+pub calm_only : (id : ℕ) (f : Thread → Thread) → ((t : Thread) → Calm t (f t)) → (t : Thread) → Calm t (Threads.at_thread id f t)
 calm_only id f h t = choose_calm (t.id == id) t (f t) (h t)
 
-pub calm_throughout : (g : ℕ) (f : Thread → Thread) → ((t : Thread) → Calm t (f t)) → (t : Thread) → Calm t (Threads.throughout g f t)
+pub calm_throughout : (g : ℕ) (f : Thread → Thread) → ((t : Thread) → Calm t (f t)) → (t : Thread) → Calm t (Threads.at_group g f t)
 calm_throughout g f h t = choose_calm (t.group == g) t (f t) (h t)
 
 restarted_holds : (l : Life) → held (TraceeStops.restarted_life l) ≡ None
@@ -271,10 +271,10 @@ told_before life.Stopped d h = absurd (true≢false (sym h))
 told_before life.Listening d h = absurd (true≢false (sym h))
 told_before life.Execing d h = absurd (true≢false (sym h))
 
-pub calm_broken : (kill : Bool) (s : End) (t : Thread) → Calm t (TraceeEnds.broken kill s t)
+pub calm_broken : (kill : Bool) (s : End) (t : Thread) → Calm t (TraceeEnds.begun_to_leave kill s t)
 calm_broken kill s t = go (Lives.is_dead t.life) refl
   where
-    go : (b : Bool) → Lives.is_dead t.life ≡ b → Calm t (if b then t else TraceeEnds.out kill s t)
+    go : (b : Bool) → Lives.is_dead t.life ≡ b → Calm t (if b then t else TraceeEnds.leaving_with kill s t)
     go true e = calm_same t
     go false e = record { id = refl; group = refl; holds = inl refl; reports = inl refl; told = λ h. or_left _ _ (or_right kill _ (told_before t.life e h)) }
 
@@ -282,7 +282,7 @@ choose_other : (b : Bool) (t u : Thread) → Calm t u → Calm t (if b then t el
 choose_other true t u h = calm_same t
 choose_other false t u h = h
 
-pub calm_broken_by_exec : (id : ℕ) (s : End) (t : Thread) → Calm t (TraceeEnds.broken_by_exec id s t)
+pub calm_broken_by_exec : (id : ℕ) (s : End) (t : Thread) → Calm t (TraceeEnds.begun_to_leave_by_exec id s t)
 calm_broken_by_exec id s t = choose_other (t.id == id) t _ (calm_broken false (TraceeEnds.own_end s t.life) t)
 
 -- Calm changes of groups

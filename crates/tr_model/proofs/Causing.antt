@@ -8,7 +8,7 @@ use Rattle.tr_model.specs.declared.events.Event.{Event}
 use Rattle.tr_model.specs.declared.events.Event.TheVariants as event
 use Rattle.tr_model.specs.declared.replies.Refusal.{Refusal}
 use Rattle.tr_model.specs.declared.replies.Refusal.TheVariants.{NoMemory, ThreadedExec, JournalFull}
-use Rattle.tr_model.specs.Causes.{causes, first, no_siginfo, script, thread_then, unless, where_is, with_thread}
+use Rattle.tr_model.specs.Causes.{causes, first_cause, no_siginfo, refused_if, script, thread_then, unless, with_thread}
 use Rattle.tr_model.specs.Laws.{CausesAreCauses, IsCause, StepsAreDetermined}
 use Rattle.tr_model.specs.Tables.{Table, thread_of}
 
@@ -36,7 +36,7 @@ abbrev AllCauses : List (Option Refusal) → Type 0
 AllCauses [] = Unit {0}
 AllCauses (o ∷ os) = MayAnswer o × AllCauses os
 
-first_causes : (os : List (Option Refusal)) → AllCauses os → MayAnswer (first os)
+first_causes : (os : List (Option Refusal)) → AllCauses os → MayAnswer (first_cause os)
 first_causes [] c = tt
 first_causes (None ∷ os) c = first_causes os c.1
 first_causes (Some why ∷ os) c = c.0
@@ -47,7 +47,7 @@ unless_causes : (b : Bool) (why : Refusal) → MayCause why → MayAnswer (unles
 unless_causes true why c = tt
 unless_causes false why c = c
 
-where_causes : (b : Bool) (why : Refusal) → MayCause why → MayAnswer (where_is b why)
+where_causes : (b : Bool) (why : Refusal) → MayCause why → MayAnswer (refused_if b why)
 where_causes true why c = c
 where_causes false why c = tt
 

@@ -15,7 +15,7 @@ use Rattle.tr_model.specs.declared.events.Event.TheVariants as event
 use Rattle.tr_model.specs.declared.replies.Refusal.{Refusal}
 use Rattle.tr_model.specs.declared.replies.Reply.TheVariants as reply
 use Rattle.tr_model.specs.declared.rows.Group.{Group}
-use Rattle.tr_model.specs.Causes.{can_take_thread, exists_where, first, is_in, message_of, message_reply, nothing_where, siginfo, siginfo_of, thread_then}
+use Rattle.tr_model.specs.Causes.{can_take_thread, exists_where, first_cause, is_in, message_of, message_reply, nothing_where, siginfo, siginfo_of, thread_then}
 use Rattle.tr_model.specs.Journals.{IsSorted}
 use Rattle.tr_model.specs.Laws.{PreferredIsAdmitted}
 use Rattle.tr_model.specs.Journals.{DistinctIds}
@@ -23,7 +23,7 @@ use Rattle.tr_model.specs.Laws.{HasFreeId, NothingIsExact}
 use Rattle.tr_model.specs.Preferred.{best_for, clone_choice, new_id, reporting, take_any_choice, take_choice, taking, taking_by}
 use Rattle.tr_model.specs.Steps.{gives_id, gives_report, is_new, takes, takes_by, takes_instance}
 use Rattle.tr_model.specs.Tables.{Table, has_traced, members, thread_of}
-use Rattle.tr_model.specs.Takes.{can_take, choices, is_empty, numbered}
+use Rattle.tr_model.specs.Takes.{can_take, choices, is_empty, with_number}
 use Rattle.tr_model.specs.Waits.{asked_tracees, death_number, has_death, has_report, led_groups, note_number, note_wanted, ready, ready_death, ready_for_starter, ready_note, ready_of_group, ready_thread, report_number, shows_note, with_death, with_note, with_report}
 use Rattle.tr_model.proofs.Among.{Among, among_filter, among_flat, any_among, empty_right, filter_among, find_among, first_of_flat, found_by_id, some_found}
 use Rattle.tr_model.proofs.FreeIds.{new_id_is_new}
@@ -57,10 +57,10 @@ siginfo_is_something (Some t) e = go (held t.life) e
 -- Takes
 
 -- who takes an instance can take one
-taker_can : (T : Table) (t : Thread) (n : ℕ) → is_some (numbered n (choices T t)) ≡ true → can_take T t ≡ true
+taker_can : (T : Table) (t : Thread) (n : ℕ) → is_some (with_number n (choices T t)) ≡ true → can_take T t ≡ true
 taker_can T t n = go (choices T t)
   where
-    go : (is : List Instance) → is_some (numbered n is) ≡ true → not (is_empty is) ≡ true
+    go : (is : List Instance) → is_some (with_number n is) ≡ true → not (is_empty is) ≡ true
     go [] e = absurd (true≢false (sym e))
     go (i ∷ is) e = refl
 
@@ -298,7 +298,7 @@ starter_admitted T which flags e =
       ],
     )
 
-clone_admitted : (T : Table) (o : Option Thread) (causes : Thread → List (Option Refusal)) → HasFreeId T → first (thread_then o causes) ≡ None
+clone_admitted : (T : Table) (o : Option Thread) (causes : Thread → List (Option Refusal)) → HasFreeId T → first_cause (thread_then o causes) ≡ None
     → (new : ℕ) × (clone_choice T o ≡ gives_id new) × (is_new T new ≡ true)
 clone_admitted T None causes free e = cc
 clone_admitted T (Some t) causes free e = (new_id T t.group, refl, new_id_is_new T t.group free)

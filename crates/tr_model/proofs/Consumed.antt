@@ -99,7 +99,7 @@ it_has : (r n : ℕ) (o : Option Report) → Waits.has_report r o ≡ true → i
 it_has r n None h = absurd (true≢false (sym h))
 it_has r n (Some x) h = ap (λ (k : ℕ). one (k == n)) (eqb-true x.number r h)
 
-pub here : (id : ℕ) (f : Thread → Thread) (t : Thread) → t.id ≡ id → Threads.only id f t ≡ f t
+pub here : (id : ℕ) (f : Thread → Thread) (t : Thread) → t.id ≡ id → Threads.at_thread id f t ≡ f t
 here id f t e = go (t.id == id) (eq-eqb t.id id e)
   where
     go : (b : Bool) → b ≡ true → (if b then f t else t) ≡ f t
@@ -108,11 +108,11 @@ here id f t e = go (t.id == id) (eq-eqb t.id id e)
 
 module _ (before : List Raise) (taken : List ℕ) (r : ℕ) (t : Thread) (w : Work) (p : Reported before taken w) (m : Member t w.table.threads) (h : Waits.has_report r t.report ≡ true) where
   -- the report goes by a change of the thread's record
-  cleared : (f : Thread → Thread) → ((x : Thread) → Tame x (f x)) → (f t).report ≡ None → Reported before (taken ++ r ∷ []) (Moves.alter (Threads.only t.id f) w)
+  cleared : (f : Thread → Thread) → ((x : Thread) → Tame x (f x)) → (f t).report ≡ None → Reported before (taken ++ r ∷ []) (Moves.alter (Threads.at_thread t.id f) w)
   cleared f c n =
-      let q = map-reported before taken (Threads.only t.id f) (λ x. (tame_only t.id f c x).calm) w p in
+      let q = map-reported before taken (Threads.at_thread t.id f) (λ x. (tame_only t.id f c x).calm) w p in
       record {
-        count = λ k. omega (arith, p.count k, strict_map (reports k) (Threads.only t.id f) t (λ x. calm_less k x _ (tame_only t.id f c x).calm) (ap (reports k) (here t.id f t refl) ∙ ap (is_report k) n) w.table.threads m, it_has r k t.report h, occurs-last r k taken);
+        count = λ k. omega (arith, p.count k, strict_map (reports k) (Threads.at_thread t.id f) t (λ x. calm_less k x _ (tame_only t.id f c x).calm) (ap (reports k) (here t.id f t refl) ∙ ap (is_report k) n) w.table.threads m, it_has r k t.report h, occurs-last r k taken);
         threads = q.threads;
         groups = q.groups;
       }
@@ -138,10 +138,10 @@ module _ (before : List Raise) (taken : List ℕ) (r : ℕ) (t : Thread) (w : Wo
   consumed-reported : Reported before (taken ++ r ∷ []) (Waits.consume t w)
   consumed-reported = go (Lives.is_dead t.life) refl (Threads.is_leader t)
     where
-      go : (d : Bool) → Lives.is_dead t.life ≡ d → (l : Bool) → Reported before (taken ++ r ∷ []) (if d then (if l then Ends.pass_on t t.report w else Ends.remove_thread t w) else Moves.alter (Threads.only t.id TraceeStops.told_nothing) w)
+      go : (d : Bool) → Lives.is_dead t.life ≡ d → (l : Bool) → Reported before (taken ++ r ∷ []) (if d then (if l then Ends.pass_on t t.report w else Ends.remove_thread t w) else Moves.alter (Threads.at_thread t.id TraceeStops.without_report) w)
       go true d true = passed_on t.report (released_none (Lives.is_dead t.life) d)
       go true d false = taken_off d
-      go false d l = cleared TraceeStops.told_nothing tame_told_nothing refl
+      go false d l = cleared TraceeStops.without_report tame_told_nothing refl
 
 -- a note
 
@@ -256,15 +256,15 @@ by_starter before taken which flags r w p h = go (Waits.ready_death w.table whic
         note_cleared before taken r g w p (group_filter _ g w.table.groups x.0) x.1
     go None None e f q = absurd (true≢false (sym q))
 
-any_reported : (before : List Raise) (taken : List ℕ) (T : Table) (a : ℕ) (e : Event) (c : Choice) → Steps.Admits T a e c → Reported before taken (Moves.begin T) → Reported before taken (GroupStops.settle (Steps.does a e c (Moves.begin T)))
+any_reported : (before : List Raise) (taken : List ℕ) (T : Table) (a : ℕ) (e : Event) (c : Choice) → Steps.Admits T a e c → Reported before taken (Moves.begin T) → Reported before taken (GroupStops.complete_group_stops (Steps.work_of_event a e c (Moves.begin T)))
 any_reported before taken T a e c h p = always-kept (Reported before taken) (moves-reported before taken) T (record { actor = a; event = e; choice = c }) h p
 
-event_reported : (before : List Raise) (taken : List ℕ) (T : Table) (a : ℕ) (e : Event) (c : Choice) → Reported before taken (Moves.begin T) → Steps.Admits T a e c → Reported before (taken ++ Journals.consumed_of e c) (GroupStops.settle (Steps.does a e c (Moves.begin T)))
+event_reported : (before : List Raise) (taken : List ℕ) (T : Table) (a : ℕ) (e : Event) (c : Choice) → Reported before taken (Moves.begin T) → Steps.Admits T a e c → Reported before (taken ++ Journals.consumed_of e c) (GroupStops.complete_group_stops (Steps.work_of_event a e c (Moves.begin T)))
 event_reported before taken T a (event.Wait which) c p h =
-    subst (λ d. Reported before (taken ++ Journals.chosen d.report) (GroupStops.settle (Steps.does a (event.Wait which) d (Moves.begin T)))) (sym h.1)
+    subst (λ d. Reported before (taken ++ Journals.chosen d.report) (GroupStops.complete_group_stops (Steps.work_of_event a (event.Wait which) d (Moves.begin T)))) (sym h.1)
     (settle-kept any any_of (Reported before (taken ++ h.0 ∷ [])) (moves-reported before (taken ++ h.0 ∷ [])) _ (by_wait before taken a which h.0 (Moves.begin T) p h.2))
 event_reported before taken T a (event.StarterWait which flags) c p h =
-    subst (λ d. Reported before (taken ++ Journals.chosen d.report) (GroupStops.settle (Steps.does a (event.StarterWait which flags) d (Moves.begin T)))) (sym h.1)
+    subst (λ d. Reported before (taken ++ Journals.chosen d.report) (GroupStops.complete_group_stops (Steps.work_of_event a (event.StarterWait which flags) d (Moves.begin T)))) (sym h.1)
     (settle-kept any any_of (Reported before (taken ++ h.0 ∷ [])) (moves-reported before (taken ++ h.0 ∷ [])) _ (by_starter before taken which flags h.0 (Moves.begin T) p h.2))
 event_reported before taken T a e c p h = rw append-nil (any_reported before taken T a e c h p)
 

@@ -174,13 +174,13 @@ alters f w = still w (Moves.alter f w) refl refl (omega (arith, length-map w.tab
 pub becomes : (fate : Fate) (f : Thread → Thread) (w : Work) → Bound nothing w (Moves.become fate f w)
 becomes fate f w = still w (Moves.become fate f w) refl refl (omega (arith, length-map w.table.threads f)) (omega arith) refl refl
 
-pub changes : (fate : Fate) (f : Thread → Thread) (t : Thread) (w : Work) → Bound nothing w (Moves.changing fate f t w)
-changes fate f t w = still w (Moves.changing fate f t w) refl refl (omega (arith, length-changed t.id f w.table.threads)) (omega arith) refl refl
+pub changes : (fate : Fate) (f : Thread → Thread) (t : Thread) (w : Work) → Bound nothing w (Moves.change_ending fate f t w)
+changes fate f t w = still w (Moves.change_ending fate f t w) refl refl (omega (arith, length-changed t.id f w.table.threads)) (omega arith) refl refl
 
 pub regroups : (f : Group → Group) (w : Work) → Bound nothing w (Moves.regroup f w)
 regroups f w = still w (Moves.regroup f w) refl refl (omega arith) (omega (arith, length-map w.table.groups f)) refl refl
 
-raisings : (f : Thread → Thread) (t : Thread) (s : Status) (w : Work) → Bound (cost 0 1 0 0) w (Moves.raising f t s w)
+raisings : (f : Thread → Thread) (t : Thread) (s : Status) (w : Work) → Bound (cost 0 1 0 0) w (Moves.raise_with f t s w)
 raisings f t s w = record { accepted_grows = omega arith; accepts = omega arith; raised_grows = omega arith; raises = omega arith; threads = omega (arith, length-changed t.id f w.table.threads); groups = omega arith; dying = omega arith; renamed = λ e. refl }
 
 pub notes : (g : ℕ) (s : Status) (w : Work) → Bound (cost 0 1 0 0) w (Moves.note g s w)
@@ -193,11 +193,11 @@ on_threads (Some x) move w h = h x
 pub ats : {c : Cost} (id : ℕ) (move : Thread → Work → Work) (w : Work) → ((x : Thread) → Bound c w (move x w)) → Bound c w (Moves.at id move w)
 ats id move w h = on_threads (Tables.thread_of w.table id) move w h
 
-enterings : (s : Stop) (t : Thread) (w : Work) → Bound (cost 0 1 0 0) w (Moves.entering s t w)
+enterings : (s : Stop) (t : Thread) (w : Work) → Bound (cost 0 1 0 0) w (Moves.enter_if_allowed s t w)
 enterings s t w = branch w (TraceeStops.may_enter t.life) _ w (raisings _ t (Lives.status_of_stop s) w) (none w)
 
 pub enters : (id : ℕ) (s : Stop) (w : Work) → Bound (cost 0 1 0 0) w (Moves.enter id s w)
-enters id s w = ats id (Moves.entering s) w (λ t. enterings s t w)
+enters id s w = ats id (Moves.enter_if_allowed s) w (λ t. enterings s t w)
 
 holdings : (t : Thread) (o : Option Instance) (w : Work) → Bound (cost 0 1 0 0) w (Moves.on_instance o (Moves.holding t) w)
 holdings t None w = none w
@@ -222,20 +222,20 @@ removes p w = still w (Moves.remove_dead p w) refl refl (filter-le-length _ w.ta
 abbrev pub passing : Cost
 passing = record { accepted = 0; raised = 0; added = 0; begun = 0; passes = true }
 
-places : (t : Thread) (w : Work) → Bound passing w (Moves.placed t w)
+places : (t : Thread) (w : Work) → Bound passing w (Moves.with_leaders_row t w)
 places t w = record {
   accepted_grows = omega arith;
   accepts = omega arith;
   raised_grows = omega arith;
   raises = omega arith;
-  threads = omega (arith, length-map (Moves.dropped t.id w.table.threads) (Moves.in_place t), length-dropped t.id w.table.threads);
+  threads = omega (arith, length-map (Moves.dropped t.id w.table.threads) (Moves.in_leaders_row t), length-dropped t.id w.table.threads);
   groups = omega arith;
   dying = omega arith;
   renamed = λ e. absurd (true≢false e);
 }
 
 pub take_places : (id : ℕ) (w : Work) → Bound passing w (Moves.take_place id w)
-take_places id w = ats id Moves.taking_place w (λ t. branch w _ (Moves.placed t w) w (places t w) (none w))
+take_places id w = ats id Moves.taking_place w (λ t. branch w _ (Moves.with_leaders_row t w) w (places t w) (none w))
 
 pub drops : (g : ℕ) (w : Work) → Bound nothing w (Moves.drop_empty g w)
 drops g w = still w (Moves.drop_empty g w) refl refl (omega arith) (filter-le-length (Moves.stays g w) w.table.groups) refl refl

@@ -65,10 +65,10 @@ execing_told (life.Leaving s told) e h = true≢false (sym e)
 execing_told (life.Dead s) e h = true≢false (sym e)
 
 -- what a KILL makes of a thread of its group
-killed_told : (g : ℕ) (s : End) (t : Thread) → Told g (Threads.throughout g (TraceeEnds.broken true s) t)
+killed_told : (g : ℕ) (s : End) (t : Thread) → Told g (Threads.at_group g (TraceeEnds.begun_to_leave true s) t)
 killed_told g s t = go (t.group == g) refl
   where
-    inner : (d : Bool) → Lives.is_dead t.life ≡ d → Lives.is_told (if d then t else TraceeEnds.out true s t).life ≡ true
+    inner : (d : Bool) → Lives.is_dead t.life ≡ d → Lives.is_told (if d then t else TraceeEnds.leaving_with true s t).life ≡ true
     inner true d = dead_is_told t.life d
       where
         dead_is_told : (l : Life) → Lives.is_dead l ≡ true → Lives.is_told l ≡ true
@@ -81,7 +81,7 @@ killed_told g s t = go (t.group == g) refl
         dead_is_told life.Execing h = absurd (true≢false (sym h))
     inner false d = refl
 
-    go : (b : Bool) → (t.group == g) ≡ b → Told g (if b then TraceeEnds.broken true s t else t)
+    go : (b : Bool) → (t.group == g) ≡ b → Told g (if b then TraceeEnds.begun_to_leave true s t else t)
     go true h e = inner (Lives.is_dead t.life) refl
     go false h e = absurd (eqb-false t.group g h e)
 
@@ -92,7 +92,7 @@ module _ (before : List ℕ) where
   changed-dying : (f : Thread → Thread) (t : Thread) → Calm t (f t) → (ts : List Thread) → Tables.thread_in ts t.id ≡ Some t → (g : ℕ) → Each (Told g) ts → Each (Told g) (Moves.changed t.id f ts)
   changed-dying f t c ts e g h = each_changed (Told g) t.id f t (calm_told g t (f t) c (each_found (Told g) t.id t ts e h)) ts e h
 
-  entering-dying : (t : Thread) (s : Stop) (w : Work) → Tables.thread_of w.table t.id ≡ Some t → Dying before w → Dying before (Moves.entering s t w)
+  entering-dying : (t : Thread) (s : Stop) (w : Work) → Tables.thread_of w.table t.id ≡ Some t → Dying before w → Dying before (Moves.enter_if_allowed s t w)
   entering-dying t s w e d = go (TraceeStops.may_enter t.life) refl
     where
       go : (m : Bool) → TraceeStops.may_enter t.life ≡ m → Dying before (if m then Moves.entered_now s t w else w)
@@ -110,7 +110,7 @@ module _ (before : List ℕ) where
   holding-dying t None w e d = d
   holding-dying t (Some i) w e d = go (Lives.is_free t.life)
     where
-      go : (f : Bool) → Dying before (if f then Moves.entering (stop.Signal i false) t (Moves.pulled i w) else w)
+      go : (f : Bool) → Dying before (if f then Moves.enter_if_allowed (stop.Signal i false) t (Moves.pulled i w) else w)
       go true = entering-dying t (stop.Signal i false) (Moves.pulled i w) e (record { told = d.told })
       go false = d
 
@@ -131,21 +131,21 @@ module _ (before : List ℕ) where
   place-dying : (t : Thread) (w : Work) → Tables.thread_of w.table t.id ≡ Some t → Dying before w → Dying before (Moves.taking_place t w)
   place-dying t w e d = go (Lives.is_execing t.life && not (t.id == t.group)) refl
     where
-      one_place : (g : ℕ) → IsIn g (before ++ w.killed) → Lives.is_execing t.life ≡ true → (x : Thread) → Told g x → Told g (Moves.in_place t x)
+      one_place : (g : ℕ) → IsIn g (before ++ w.killed) → Lives.is_execing t.life ≡ true → (x : Thread) → Told g x → Told g (Moves.in_leaders_row t x)
       one_place g i x' x h = at_place (x.id == t.group && Lives.is_dead x.life)
         where
           at_place : (b : Bool) → Told g (if b then Moves.renamed t.group t else x)
           at_place true = λ q. absurd (execing_told t.life x' (each_found (Told g) t.id t w.table.threads e (d.told g i) q))
           at_place false = h
 
-      go : (p : Bool) → (Lives.is_execing t.life && not (t.id == t.group)) ≡ p → Dying before (if p then Moves.placed t w else w)
-      go true p = record { told = λ g i. each_map (Told g) (Told g) (Moves.in_place t) (one_place g i (and_parts _ _ p).0) (Moves.dropped t.id w.table.threads) (each_dropped (Told g) t.id w.table.threads (d.told g i)) }
+      go : (p : Bool) → (Lives.is_execing t.life && not (t.id == t.group)) ≡ p → Dying before (if p then Moves.with_leaders_row t w else w)
+      go true p = record { told = λ g i. each_map (Told g) (Told g) (Moves.in_leaders_row t) (one_place g i (and_parts _ _ p).0) (Moves.dropped t.id w.table.threads) (each_dropped (Told g) t.id w.table.threads (d.told g i)) }
       go false p = d
 
   broken-dying : (g : ℕ) (s : End) (kill : Bool) (w : Work) → Dying before w → Dying before (Deaths.begin_death g s kill w)
   broken-dying g s kill w d =
       let now = Deaths.first_end (Tables.group_end w.table g) s in
-      record { told = λ h i. alter-dying (Threads.throughout g (TraceeEnds.broken kill now)) (calm_throughout g (TraceeEnds.broken kill now) (calm_broken kill now)) w.table.threads h (d.told h i) }
+      record { told = λ h i. alter-dying (Threads.at_group g (TraceeEnds.begun_to_leave kill now)) (calm_throughout g (TraceeEnds.begun_to_leave kill now) (calm_broken kill now)) w.table.threads h (d.told h i) }
 
   kill-dying : (g : ℕ) (w : Work) → Dying before w → Dying before (Deaths.kill_group g w)
   kill-dying g w d = record { told = λ h i. go h (is_in-append h (before ++ w.killed) (g ∷ []) (subst (IsIn h) (sym (append_assoc before w.killed (g ∷ []))) i)) }
@@ -154,10 +154,10 @@ module _ (before : List ℕ) where
       now = Deaths.first_end (Tables.group_end w.table g) (ending.Killed 9)
 
       go : (h : ℕ) → IsIn h (before ++ w.killed) ⊎ IsIn h (g ∷ []) → Each (Told h) (Deaths.kill_group g w).table.threads
-      go h (inl i) = alter-dying (Threads.throughout g (TraceeEnds.broken true _)) (calm_throughout g (TraceeEnds.broken true _) (calm_broken true _)) w.table.threads h (d.told h i)
+      go h (inl i) = alter-dying (Threads.at_group g (TraceeEnds.begun_to_leave true _)) (calm_throughout g (TraceeEnds.begun_to_leave true _) (calm_broken true _)) w.table.threads h (d.told h i)
       go h (inr (inl e)) = subst (λ x. Each (Told x) (Deaths.kill_group g w).table.threads) e (all_told w.table.threads)
         where
-          all_told : (ts : List Thread) → Each (Told g) (map (Threads.throughout g (TraceeEnds.broken true (Deaths.first_end (Tables.group_end w.table g) (ending.Killed 9)))) ts)
+          all_told : (ts : List Thread) → Each (Told g) (map (Threads.at_group g (TraceeEnds.begun_to_leave true (Deaths.first_end (Tables.group_end w.table g) (ending.Killed 9)))) ts)
           all_told [] = tt
           all_told (t ∷ ts) = (killed_told g _ t, all_told ts)
       go h (inr (inr n)) = absurd n
@@ -167,10 +167,10 @@ module _ (before : List ℕ) where
     alter = λ f h w d. record { told = λ g i. alter-dying f (λ t. (h t).calm) w.table.threads g (d.told g i) };
     resume = λ fate live t r w e d. record { told = λ g i. changed-dying TraceeStops.restarted t (calm_restarted t) w.table.threads e g (d.told g i) };
     listen = λ t r w e d. record { told = λ g i. changed-dying TraceeStops.listening t (calm_listening t) w.table.threads e g (d.told g i) };
-    break_others = λ g id x w d. record { told = λ h i. alter-dying (Threads.throughout g (TraceeEnds.broken_by_exec id (ending.Exited 0))) (calm_throughout g _ (calm_broken_by_exec id (ending.Exited 0))) w.table.threads h (d.told h i) };
+    break_others = λ g id x w d. record { told = λ h i. alter-dying (Threads.at_group g (TraceeEnds.begun_to_leave_by_exec id (ending.Exited 0))) (calm_throughout g _ (calm_broken_by_exec id (ending.Exited 0))) w.table.threads h (d.told h i) };
     begin_death = broken-dying;
     kill_group = kill-dying;
-    enter = λ id s h w d. at-dying id (Moves.entering s) w (λ t e. entering-dying t s w e d) d;
+    enter = λ id s h w d. at-dying id (Moves.enter_if_allowed s) w (λ t e. entering-dying t s w e d) d;
     hold = λ id n w d. at-dying id (λ t. Moves.on_instance (Moves.instance_in w.table.waiting n) (Moves.holding t)) w (λ t e. holding-dying t _ w e d) d;
     report_death = λ id s w d. at-dying id (Moves.report_dead s) w (λ t e. report-dying s t w e d) d;
     spawn = λ parent id mark w n d. at-dying parent (Moves.spawned id mark) w (λ t e. spawn-dying id mark t w e d) d;

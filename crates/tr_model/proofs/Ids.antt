@@ -61,7 +61,7 @@ at-distinct id move w h d = go (Tables.thread_of w.table id) refl
     go None e = d
     go (Some t) e = h t (itself w.table.threads id t e)
 
-entering-distinct : (t : Thread) (s : Stop) (w : Work) → Tables.thread_of w.table t.id ≡ Some t → Distinct w → Distinct (Moves.entering s t w)
+entering-distinct : (t : Thread) (s : Stop) (w : Work) → Tables.thread_of w.table t.id ≡ Some t → Distinct w → Distinct (Moves.enter_if_allowed s t w)
 entering-distinct t s w e d = go (TraceeStops.may_enter t.life)
   where
     go : (b : Bool) → Distinct (if b then Moves.entered_now s t w else w)
@@ -72,7 +72,7 @@ holding-distinct : (t : Thread) (o : Option Instance) (w : Work) → Tables.thre
 holding-distinct t None w e d = d
 holding-distinct t (Some i) w e d = go (Lives.is_free t.life)
   where
-    go : (b : Bool) → Distinct (if b then Moves.entering (stop.Signal i false) t (Moves.pulled i w) else w)
+    go : (b : Bool) → Distinct (if b then Moves.enter_if_allowed (stop.Signal i false) t (Moves.pulled i w) else w)
     go true = entering-distinct t (stop.Signal i false) (Moves.pulled i w) e (as_it_was w (Moves.pulled i w) refl d)
     go false = d
 
@@ -97,31 +97,31 @@ spawned-distinct id mark t w n d = go (Lives.is_free t.life)
 placed-distinct : (t : Thread) (w : Work) → Tables.thread_of w.table t.id ≡ Some t → Distinct w → Distinct (Moves.taking_place t w)
 placed-distinct t w e d = go (Lives.is_execing t.life && not (t.id == t.group))
   where
-    ids : (x : Thread) → (Moves.in_place t x).id ≡ x.id
+    ids : (x : Thread) → (Moves.in_leaders_row t x).id ≡ x.id
     ids x = at_place (x.id == t.group && Lives.is_dead x.life) refl
       where
         at_place : (b : Bool) → (x.id == t.group && Lives.is_dead x.life) ≡ b → (if b then Moves.renamed t.group t else x).id ≡ x.id
         at_place true q = sym (eqb-true x.id t.group (and_parts _ _ q).0)
         at_place false q = refl
 
-    go : (b : Bool) → Distinct (if b then Moves.placed t w else w)
-    go true = record { once = λ k. omega (arith, d.once k, total_same (has_id k) (Moves.in_place t) (λ x. same_id k x (Moves.in_place t x) (ids x)) (Moves.dropped t.id w.table.threads), total_dropped (has_id k) t.id t w.table.threads e) }
+    go : (b : Bool) → Distinct (if b then Moves.with_leaders_row t w else w)
+    go true = record { once = λ k. omega (arith, d.once k, total_same (has_id k) (Moves.in_leaders_row t) (λ x. same_id k x (Moves.in_leaders_row t x) (ids x)) (Moves.dropped t.id w.table.threads), total_dropped (has_id k) t.id t w.table.threads e) }
     go false = d
 
 death-distinct : (g : ℕ) (s : End) (kill : Bool) (w : Work) → Distinct w → Distinct (Deaths.begin_death g s kill w)
 death-distinct g s kill w d =
     let now = Deaths.first_end (Tables.group_end w.table g) s in
-    as_it_was (Moves.alter (Threads.throughout g (TraceeEnds.broken kill now)) w) (Deaths.begin_death g s kill w) refl (map-distinct (Threads.throughout g (TraceeEnds.broken kill now)) (calm_throughout g (TraceeEnds.broken kill now) (calm_broken kill now)) w d)
+    as_it_was (Moves.alter (Threads.at_group g (TraceeEnds.begun_to_leave kill now)) w) (Deaths.begin_death g s kill w) refl (map-distinct (Threads.at_group g (TraceeEnds.begun_to_leave kill now)) (calm_throughout g (TraceeEnds.begun_to_leave kill now) (calm_broken kill now)) w d)
 
 pub moves-distinct : Kept any any_of Distinct
 moves-distinct = record {
   alter = λ f h w d. map-distinct f (λ t. (h t).calm) w d;
   resume = λ fate live t r w e d. changed-distinct TraceeStops.restarted t refl w (Requests.resume fate t w) refl e d;
   listen = λ t r w e d. changed-distinct TraceeStops.listening t refl w (Requests.listen t w) refl e d;
-  break_others = λ g id x w d. as_it_was (Moves.alter (Threads.throughout g (TraceeEnds.broken_by_exec id (ending.Exited 0))) w) (Execs.break_others g id w) refl (map-distinct (Threads.throughout g (TraceeEnds.broken_by_exec id (ending.Exited 0))) (calm_throughout g _ (calm_broken_by_exec id (ending.Exited 0))) w d);
+  break_others = λ g id x w d. as_it_was (Moves.alter (Threads.at_group g (TraceeEnds.begun_to_leave_by_exec id (ending.Exited 0))) w) (Execs.break_others g id w) refl (map-distinct (Threads.at_group g (TraceeEnds.begun_to_leave_by_exec id (ending.Exited 0))) (calm_throughout g _ (calm_broken_by_exec id (ending.Exited 0))) w d);
   begin_death = death-distinct;
   kill_group = λ g w d. death-distinct g (ending.Killed 9) true (Moves.tell_killed g w) (as_it_was w (Moves.tell_killed g w) refl d);
-  enter = λ id s h w d. at-distinct id (Moves.entering s) w (λ t e. entering-distinct t s w e d) d;
+  enter = λ id s h w d. at-distinct id (Moves.enter_if_allowed s) w (λ t e. entering-distinct t s w e d) d;
   hold = λ id n w d. at-distinct id (λ t. Moves.on_instance (Moves.instance_in w.table.waiting n) (Moves.holding t)) w (λ t e. holding-distinct t _ w e d) d;
   report_death = λ id s w d. at-distinct id (Moves.report_dead s) w (λ t e. dead-distinct s t w e d) d;
   spawn = λ parent id mark w n d. at-distinct parent (Moves.spawned id mark) w (λ t e. spawned-distinct id mark t w n d) d;

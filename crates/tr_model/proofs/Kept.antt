@@ -142,11 +142,11 @@ module _ (R : Leave → Type 0) (X : ℕ → ℕ → Type 0) (P : Work → Type 
   branch true x y h l = h
   branch false x y h l = l
 
-  pub only-kept : (id : ℕ) (f : Thread → Thread) → ((t : Thread) → Tame t (f t)) → (w : Work) → P w → P (Moves.alter (Threads.only id f) w)
-  only-kept id f h w p = k.alter (Threads.only id f) (tame_only id f h) w p
+  pub only-kept : (id : ℕ) (f : Thread → Thread) → ((t : Thread) → Tame t (f t)) → (w : Work) → P w → P (Moves.alter (Threads.at_thread id f) w)
+  only-kept id f h w p = k.alter (Threads.at_thread id f) (tame_only id f h) w p
 
-  pub throughout-kept : (g : ℕ) (f : Thread → Thread) → ((t : Thread) → Tame t (f t)) → (w : Work) → P w → P (Moves.alter (Threads.throughout g f) w)
-  throughout-kept g f h w p = k.alter (Threads.throughout g f) (tame_throughout g f h) w p
+  pub throughout-kept : (g : ℕ) (f : Thread → Thread) → ((t : Thread) → Tame t (f t)) → (w : Work) → P w → P (Moves.alter (Threads.at_group g f) w)
+  throughout-kept g f h w p = k.alter (Threads.at_group g f) (tame_throughout g f h) w p
 
   pub group-kept : (g : ℕ) (f : Group → Group) → ((x : Group) → CalmGroup x (f x)) → (w : Work) → P w → P (Moves.regroup (Moves.only_group g f) w)
   group-kept g f h w p = k.regroup (Moves.only_group g f) (calm_group g f h) w p
@@ -182,11 +182,11 @@ module _ (R : Leave → Type 0) (X : ℕ → ℕ → Type 0) (P : Work → Type 
   note_stop-kept g None w p = p
   note_stop-kept g (Some s) w p = branch _ _ _ (k.note g (status.Stopped s) w p) p
 
-  pub settle_group-kept : (g : ℕ) (w : Work) → P w → P (GroupStops.settle_group g w)
-  settle_group-kept g w p = branch _ _ _ (note_stop-kept g _ _ (group-kept g GroupStops.full (with_note _ (λ x. refl) (λ x. refl)) w p)) p
+  pub settle_group-kept : (g : ℕ) (w : Work) → P w → P (GroupStops.complete_group_stop g w)
+  settle_group-kept g w p = branch _ _ _ (note_stop-kept g _ _ (group-kept g GroupStops.completed_group (with_note _ (λ x. refl) (λ x. refl)) w p)) p
 
-  pub settle-kept : (w : Work) → P w → P (GroupStops.settle w)
-  settle-kept w p = each-kept GroupStops.settle_group settle_group-kept (map (λ x. x.tgid) w.table.groups) w p
+  pub settle-kept : (w : Work) → P w → P (GroupStops.complete_group_stops w)
+  settle-kept w p = each-kept GroupStops.complete_group_stop settle_group-kept (map (λ x. x.tgid) w.table.groups) w p
 
   pub act-kept : (t : Thread) (s : ℕ) (came : Bool) (d : Did) (w : Work) → P w → P (Takes.act t s came d w)
   act-kept t s came did.Caught w p = only-kept t.id _ (tame_paused false) w p
@@ -316,12 +316,12 @@ module _ (R : Leave → Type 0) (X : ℕ → ℕ → Type 0) (P : Work → Type 
   last_death-kept g w p = at-kept g Ends.report_leader report_leader-kept _ (k.end_waiting Flushed refl (λ q. Tables.same_target (target.Group g) q.target) w p)
 
   pub bury-kept : (t : Thread) (s : End) (w : Work) → P w → P (Ends.bury t s w)
-  bury-kept t s w p = branch (Threads.is_leader t) _ _ p (branch (Threads.is_traced t) _ _ (k.report_death t.id (Ends.told_end w.table t s) w p) (k.remove_dead (λ x. x.id == t.id) w p))
+  bury-kept t s w p = branch (Threads.is_leader t) _ _ p (branch (Threads.is_traced t) _ _ (k.report_death t.id (Ends.reported_end w.table t s) w p) (k.remove_dead (λ x. x.id == t.id) w p))
 
-  pub dead_now-kept : (t : Thread) (w : Work) → P w → P (Ends.dead_now t w)
+  pub dead_now-kept : (t : Thread) (w : Work) → P w → P (Ends.die_and_flush t w)
   dead_now-kept t w p = k.end_waiting Flushed refl (λ q. Tables.same_target (target.Thread t.id) q.target) _ (only-kept t.id _ tame_dead w p)
 
-  pub last-kept : (g : ℕ) (w : Work) → P w → P (Ends.last g w)
+  pub last-kept : (g : ℕ) (w : Work) → P w → P (Ends.report_if_last g w)
   last-kept g w p = branch _ _ _ (last_death-kept g w p) p
 
   pub die-kept : (t : Thread) (l : Life) (w : Work) → P w → P (Ends.die t l w)
@@ -363,7 +363,7 @@ module _ (R : Leave → Type 0) (X : ℕ → ℕ → Type 0) (P : Work → Type 
   on_instance-kept (Some i) t w p = take-kept t i w p
 
   pub take_numbered-kept : (n : ℕ) (t : Thread) (w : Work) → P w → P (Takes.take_numbered n t w)
-  take_numbered-kept n t w p = on_instance-kept (Takes.numbered n (Takes.choices w.table t)) t w p
+  take_numbered-kept n t w p = on_instance-kept (Takes.with_number n (Takes.choices w.table t)) t w p
 
   pub consume_note-kept : (o : Option Group) (w : Work) → P w → P (Waits.consume_note o w)
   consume_note-kept None w p = p
@@ -376,7 +376,7 @@ module _ (R : Leave → Type 0) (X : ℕ → ℕ → Type 0) (P : Work → Type 
   pub exit_group-kept : (code : ℕ) (t : Thread) (w : Work) → P w → P (Ends.exit_group code t w)
   exit_group-kept code t w p = k.begin_death t.group _ false w p
 
-  pub does-kept : (a : ℕ) (e : Event) (c : Choice) (w : Work) → MayRestart R a e → MayExec X w.table e → MayClone w.table e c → P w → P (Steps.does a e c w)
+  pub does-kept : (a : ℕ) (e : Event) (c : Choice) (w : Work) → MayRestart R a e → MayExec X w.table e → MayClone w.table e c → P w → P (Steps.work_of_event a e c w)
   does-kept a (event.Kill g s) c w r x m p = send-kept s _ (target.Group g) w p
   does-kept a (event.Tgkill g id s) c w r x m p = send-kept s _ (target.Thread id) w p
   does-kept a (event.Sigqueue g s v) c w r x m p = send-kept s _ (target.Group g) w p

@@ -35,14 +35,14 @@ all_live-append : (xs ys : List Ending) → AllLive xs → AllLive ys → AllLiv
 all_live-append [] ys h k = k
 all_live-append (x ∷ xs) ys h k = (h.0, all_live-append xs ys h.1 k)
 
-endings_live : (fate : Fate) → is_pending fate ≡ false → (before after : Option Instance) → AllLive (Moves.endings fate before after)
+endings_live : (fate : Fate) → is_pending fate ≡ false → (before after : Option Instance) → AllLive (Moves.ended_hold fate before after)
 endings_live fate h None after = tt
 endings_live fate h (Some i) None = (h, tt)
 endings_live fate h (Some i) (Some j) = tt
 
-ends_live : (fate : Fate) → is_pending fate ≡ false → (f : Thread → Thread) (ts : List Thread) → AllLive (flat_map (Moves.ends fate f) ts)
+ends_live : (fate : Fate) → is_pending fate ≡ false → (f : Thread → Thread) (ts : List Thread) → AllLive (flat_map (Moves.ended_by_change fate f) ts)
 ends_live fate h f [] = tt
-ends_live fate h f (t ∷ ts) = all_live-append (Moves.ends fate f t) (flat_map (Moves.ends fate f) ts) (endings_live fate h _ _) (ends_live fate h f ts)
+ends_live fate h f (t ∷ ts) = all_live-append (Moves.ended_by_change fate f t) (flat_map (Moves.ended_by_change fate f) ts) (endings_live fate h _ _) (ends_live fate h f ts)
 
 waiting_live : (fate : Fate) → is_pending fate ≡ false → (qs : List Waiting) → AllLive (map (Moves.ending_of fate) qs)
 waiting_live fate h [] = tt
@@ -68,7 +68,7 @@ at_same id move h w = go (thread_of w.table id)
     go None = refl
     go (Some t) = h t w
 
-entering_same : (s : Stop) (t : Thread) (w : Work) → (Moves.entering s t w).ended ≡ w.ended
+entering_same : (s : Stop) (t : Thread) (w : Work) → (Moves.enter_if_allowed s t w).ended ≡ w.ended
 entering_same s t w = branch w.ended (TraceeStops.may_enter t.life) _ w refl refl
 
 held_same : (t : Thread) (o : Option Instance) (w : Work) → (Moves.on_instance o (Moves.holding t) w).ended ≡ w.ended
@@ -79,17 +79,17 @@ hold_same : (id n : ℕ) (w : Work) → (Moves.hold id n w).ended ≡ w.ended
 hold_same id n w = at_same id (λ t v. Moves.on_instance (Moves.instance_in w.table.waiting n) (Moves.holding t) v) (λ t v. held_same t (Moves.instance_in w.table.waiting n) v) w
 
 death_live : (g : ℕ) (e : End) (kill : Bool) (w : Work) → Live w → Live (Deaths.begin_death g e kill w)
-death_live g e kill w l = let f = Threads.throughout g (TraceeEnds.broken kill (Deaths.first_end (group_end w.table g) e)) in more_live w (Deaths.begin_death g e kill w) (flat_map (Moves.ends Flushed f) w.table.threads) refl (ends_live Flushed refl f w.table.threads) l
+death_live g e kill w l = let f = Threads.at_group g (TraceeEnds.begun_to_leave kill (Deaths.first_end (group_end w.table g) e)) in more_live w (Deaths.begin_death g e kill w) (flat_map (Moves.ended_by_change Flushed f) w.table.threads) refl (ends_live Flushed refl f w.table.threads) l
 
 moves_live : Kept any any_of Live
 moves_live = record {
   alter = λ f h w l. as_live w (Moves.alter f w) refl l;
-  resume = λ fate live t r w e l. more_live w (Moves.changing fate TraceeStops.restarted t w) _ refl (endings_live fate live _ _) l;
-  listen = λ t r w e l. more_live w (Moves.changing Flushed TraceeStops.listening t w) _ refl (endings_live Flushed refl _ _) l;
-  break_others = λ g id x w l. let f = Threads.throughout g (TraceeEnds.broken_by_exec id (end.Exited 0)) in more_live w (Execs.break_others g id w) (flat_map (Moves.ends Flushed f) w.table.threads) refl (ends_live Flushed refl f w.table.threads) l;
+  resume = λ fate live t r w e l. more_live w (Moves.change_ending fate TraceeStops.restarted t w) _ refl (endings_live fate live _ _) l;
+  listen = λ t r w e l. more_live w (Moves.change_ending Flushed TraceeStops.listening t w) _ refl (endings_live Flushed refl _ _) l;
+  break_others = λ g id x w l. let f = Threads.at_group g (TraceeEnds.begun_to_leave_by_exec id (end.Exited 0)) in more_live w (Execs.break_others g id w) (flat_map (Moves.ended_by_change Flushed f) w.table.threads) refl (ends_live Flushed refl f w.table.threads) l;
   begin_death = death_live;
   kill_group = λ g w l. death_live g (end.Killed 9) true (Moves.tell_killed g w) (as_live w (Moves.tell_killed g w) refl l);
-  enter = λ id s h w l. as_live w (Moves.enter id s w) (at_same id (Moves.entering s) (entering_same s) w) l;
+  enter = λ id s h w l. as_live w (Moves.enter id s w) (at_same id (Moves.enter_if_allowed s) (entering_same s) w) l;
   hold = λ id n w l. as_live w (Moves.hold id n w) (hold_same id n w) l;
   report_death = λ id e w l. as_live w (Moves.report_death id e w) (at_same id (Moves.report_dead e) (λ t v. branch v.ended (Lives.is_dead t.life) _ v refl refl) w) l;
   spawn = λ parent id mark w n l. as_live w (Moves.spawn parent id mark w) (at_same parent (Moves.spawned id mark) (λ t v. branch v.ended (Lives.is_free t.life) _ v refl refl) w) l;

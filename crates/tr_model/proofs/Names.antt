@@ -11,7 +11,7 @@ use Rattle.tr_model.specs.Steps
 use Rattle.tr_model.specs.Tables.{Table}
 use Rattle.tr_model.proofs.Bounds.{renames_nothing}
 
-pub take_renames_nothing : (T : Table) (a : ℕ) (e : Event) (c : Choice) (k : Taken) → taken_of T e c ≡ Some k → (GroupStops.settle (Steps.does a e c (Moves.begin T))).renamed ≡ []
+pub take_renames_nothing : (T : Table) (a : ℕ) (e : Event) (c : Choice) (k : Taken) → taken_of T e c ≡ Some k → (GroupStops.complete_group_stops (Steps.work_of_event a e c (Moves.begin T))).renamed ≡ []
 take_renames_nothing T a (event.Take id) c k q = renames_nothing T (record { actor = a; event = event.Take id; choice = c }) refl
 take_renames_nothing T a (event.TakeAny g) c k q = renames_nothing T (record { actor = a; event = event.TakeAny g; choice = c }) refl
 take_renames_nothing T a e c k q = absurd (none-some k q)

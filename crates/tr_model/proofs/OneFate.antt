@@ -71,24 +71,24 @@ waits-append n (x ∷ xs) ys = omega (arith, waits-append n xs ys)
 
 -- a change of records
 
-endings-none : (n : ℕ) (fate : Fate) (o : Option Instance) → is_number n None + gone n (Moves.endings fate o None) ≡ is_number n o
+endings-none : (n : ℕ) (fate : Fate) (o : Option Instance) → is_number n None + gone n (Moves.ended_hold fate o None) ≡ is_number n o
 endings-none n fate None = refl
 endings-none n fate (Some i) = omega arith
 
-endings-same : (n : ℕ) (fate : Fate) (o : Option Instance) → is_number n o + gone n (Moves.endings fate o o) ≡ is_number n o
+endings-same : (n : ℕ) (fate : Fate) (o : Option Instance) → is_number n o + gone n (Moves.ended_hold fate o o) ≡ is_number n o
 endings-same n fate None = refl
 endings-same n fate (Some i) = omega arith
 
-one_change : (n : ℕ) (fate : Fate) (f : Thread → Thread) (t : Thread) → Calm t (f t) → holds n (f t) + gone n (Moves.ends fate f t) ≡ holds n t
+one_change : (n : ℕ) (fate : Fate) (f : Thread → Thread) (t : Thread) → Calm t (f t) → holds n (f t) + gone n (Moves.ended_by_change fate f t) ≡ holds n t
 one_change n fate f t c = go c.holds
   where
-    go : (held (f t).life ≡ None) ⊎ (held (f t).life ≡ held t.life) → holds n (f t) + gone n (Moves.ends fate f t) ≡ holds n t
+    go : (held (f t).life ≡ None) ⊎ (held (f t).life ≡ held t.life) → holds n (f t) + gone n (Moves.ended_by_change fate f t) ≡ holds n t
     go (inl e) = rw e (endings-none n fate (held t.life))
     go (inr e) = rw e (endings-same n fate (held t.life))
 
-changes : (n : ℕ) (fate : Fate) (f : Thread → Thread) → ((t : Thread) → Calm t (f t)) → (ts : List Thread) → total (holds n) (map f ts) + gone n (flat_map (Moves.ends fate f) ts) ≡ total (holds n) ts
+changes : (n : ℕ) (fate : Fate) (f : Thread → Thread) → ((t : Thread) → Calm t (f t)) → (ts : List Thread) → total (holds n) (map f ts) + gone n (flat_map (Moves.ended_by_change fate f) ts) ≡ total (holds n) ts
 changes n fate f h [] = refl
-changes n fate f h (t ∷ ts) = omega (arith, one_change n fate f t (h t), changes n fate f h ts, gone-append n (Moves.ends fate f t) (flat_map (Moves.ends fate f) ts))
+changes n fate f h (t ∷ ts) = omega (arith, one_change n fate f t (h t), changes n fate f h ts, gone-append n (Moves.ended_by_change fate f t) (flat_map (Moves.ended_by_change fate f) ts))
 
 zero_of : (n : ℕ) (o : Option Instance) → o ≡ None → is_number n o ≡ 0
 zero_of n o e = ap (is_number n) e
@@ -96,16 +96,16 @@ zero_of n o e = ap (is_number n) e
 none_some : {A : Type 0} (t : A) → None ≡ Some t → ⊥
 none_some t e = cc
 
-in_places : (n : ℕ) (t : Thread) → held t.life ≡ None → (ts : List Thread) → total (holds n) (map (Moves.in_place t) ts) ≡ total (holds n) ts
+in_places : (n : ℕ) (t : Thread) → held t.life ≡ None → (ts : List Thread) → total (holds n) (map (Moves.in_leaders_row t) ts) ≡ total (holds n) ts
 in_places n t h [] = refl
 in_places n t h (x ∷ ts) = go (x.id == t.group && Lives.is_dead x.life) refl (in_places n t h ts)
   where
-    go : (b : Bool) → (x.id == t.group && Lives.is_dead x.life) ≡ b → total (holds n) (map (Moves.in_place t) ts) ≡ total (holds n) ts
-        → is_number n (held (if b then Moves.renamed t.group t else x).life) + total (holds n) (map (Moves.in_place t) ts) ≡ is_number n (held x.life) + total (holds n) ts
+    go : (b : Bool) → (x.id == t.group && Lives.is_dead x.life) ≡ b → total (holds n) (map (Moves.in_leaders_row t) ts) ≡ total (holds n) ts
+        → is_number n (held (if b then Moves.renamed t.group t else x).life) + total (holds n) (map (Moves.in_leaders_row t) ts) ≡ is_number n (held x.life) + total (holds n) ts
     go true e ih = omega (arith, ih, zero_of n _ (dead_holds x.life (and_parts _ _ e).1), zero_of n _ h)
     go false e ih = omega (arith, ih)
 
-reaimed_waits : (n from to : ℕ) (qs : List Waiting) → waits n (map (Moves.reaimed from to) qs) ≡ waits n qs
+reaimed_waits : (n from to : ℕ) (qs : List Waiting) → waits n (map (Moves.retargeted from to) qs) ≡ waits n qs
 reaimed_waits n from to [] = refl
 reaimed_waits n from to (q ∷ qs) = omega (arith, reaimed_waits n from to qs)
 
@@ -149,20 +149,20 @@ module _ (before : List Ending) where
   alter-balanced f h w b = record { at = λ n. omega (arith, b.at n, total_same (holds n) f (λ t. ap (is_number n) (h t).holds) w.table.threads) }
 
   become-balanced : (fate : Fate) (f : Thread → Thread) → ((t : Thread) → Calm t (f t)) → (w : Work) → Balanced before w → Balanced before (Moves.become fate f w)
-  become-balanced fate f h w b = record { at = λ n. omega (arith, b.at n, changes n fate f h w.table.threads, gone-append n w.ended (flat_map (Moves.ends fate f) w.table.threads)) }
+  become-balanced fate f h w b = record { at = λ n. omega (arith, b.at n, changes n fate f h w.table.threads, gone-append n w.ended (flat_map (Moves.ended_by_change fate f) w.table.threads)) }
 
-  changing-balanced : (fate : Fate) (f : Thread → Thread) (t : Thread) → Calm t (f t) → (w : Work) → Tables.thread_of w.table t.id ≡ Some t → Balanced before w → Balanced before (Moves.changing fate f t w)
-  changing-balanced fate f t c w e b = record { at = λ n. omega (arith, b.at n, total_changed (holds n) t.id f t w.table.threads e, one_change n fate f t c, gone-append n w.ended (Moves.ends fate f t)) }
+  changing-balanced : (fate : Fate) (f : Thread → Thread) (t : Thread) → Calm t (f t) → (w : Work) → Tables.thread_of w.table t.id ≡ Some t → Balanced before w → Balanced before (Moves.change_ending fate f t w)
+  changing-balanced fate f t c w e b = record { at = λ n. omega (arith, b.at n, total_changed (holds n) t.id f t w.table.threads e, one_change n fate f t c, gone-append n w.ended (Moves.ended_by_change fate f t)) }
 
   begin_death-balanced : (g : ℕ) (s : End) (kill : Bool) (w : Work) → Balanced before w → Balanced before (Deaths.begin_death g s kill w)
   begin_death-balanced g s kill w b =
       let now = Deaths.first_end (Tables.group_end w.table g) s in
-      record { at = (become-balanced Flushed (Threads.throughout g (TraceeEnds.broken kill now)) (calm_throughout g (TraceeEnds.broken kill now) (calm_broken kill now)) (Moves.regroup (Moves.only_group g (Deaths.dying_with s)) w) (record { at = b.at })).at }
+      record { at = (become-balanced Flushed (Threads.at_group g (TraceeEnds.begun_to_leave kill now)) (calm_throughout g (TraceeEnds.begun_to_leave kill now) (calm_broken kill now)) (Moves.regroup (Moves.only_group g (Deaths.dying_with s)) w) (record { at = b.at })).at }
 
   same_thread : (id : ℕ) (t : Thread) (w : Work) → Tables.thread_of w.table id ≡ Some t → Tables.thread_in w.table.threads t.id ≡ Some t
   same_thread id t w e = itself w.table.threads id t e
 
-  entering-balanced : (id : ℕ) (t : Thread) (s : Stop) → held (life.InStop s) ≡ None → (w : Work) → Tables.thread_of w.table id ≡ Some t → Balanced before w → Balanced before (Moves.entering s t w)
+  entering-balanced : (id : ℕ) (t : Thread) (s : Stop) → held (life.InStop s) ≡ None → (w : Work) → Tables.thread_of w.table id ≡ Some t → Balanced before w → Balanced before (Moves.enter_if_allowed s t w)
   entering-balanced id t s h w e b = go (TraceeStops.may_enter t.life) refl
     where
       go : (m : Bool) → TraceeStops.may_enter t.life ≡ m → Balanced before (if m then Moves.entered_now s t w else w)
@@ -174,7 +174,7 @@ module _ (before : List Ending) where
   enter-balanced : (id : ℕ) (s : Stop) → held (life.InStop s) ≡ None → (w : Work) → Balanced before w → Balanced before (Moves.enter id s w)
   enter-balanced id s h w b = go (Tables.thread_of w.table id) refl
     where
-      go : (o : Option Thread) → Tables.thread_of w.table id ≡ o → Balanced before (Moves.on_thread o (Moves.entering s) w)
+      go : (o : Option Thread) → Tables.thread_of w.table id ≡ o → Balanced before (Moves.on_thread o (Moves.enter_if_allowed s) w)
       go None e = b
       go (Some t) e = entering-balanced id t s h w e b
 
@@ -197,7 +197,7 @@ module _ (before : List Ending) where
       enters true m f = record { at = λ n. omega (arith, b.at n, out n, in_it n, zero_of n _ (may_enter_holds t.life m)) }
       enters false m f = absurd (true≢false (sym (free_may t.life f) ∙ m))
 
-      go : (f : Bool) → Lives.is_free t.life ≡ f → Balanced before (if f then Moves.entering (stop.Signal i false) t (Moves.pulled i w) else w)
+      go : (f : Bool) → Lives.is_free t.life ≡ f → Balanced before (if f then Moves.enter_if_allowed (stop.Signal i false) t (Moves.pulled i w) else w)
       go true f = enters (TraceeStops.may_enter t.life) refl f
       go false f = b
 
@@ -237,7 +237,7 @@ module _ (before : List Ending) where
   take_place-balanced : (id : ℕ) (w : Work) → Balanced before w → Balanced before (Moves.take_place id w)
   take_place-balanced id w b = go (Tables.thread_of w.table id) refl
     where
-      places : (t : Thread) → Tables.thread_of w.table id ≡ Some t → (p : Bool) → (Lives.is_execing t.life && not (t.id == t.group)) ≡ p → Balanced before (if p then Moves.placed t w else w)
+      places : (t : Thread) → Tables.thread_of w.table id ≡ Some t → (p : Bool) → (Lives.is_execing t.life && not (t.id == t.group)) ≡ p → Balanced before (if p then Moves.with_leaders_row t w else w)
       places t e true p =
           let h = execing_holds t.life (and_parts _ _ p).0 in
           record { at = λ n. omega (arith, b.at n, in_places n t h (Moves.dropped t.id w.table.threads), total_dropped (holds n) t.id t w.table.threads (same_thread id t w e), zero_of n _ h, reaimed_waits n t.id t.group w.table.waiting) }
@@ -252,7 +252,7 @@ module _ (before : List Ending) where
     alter = alter-balanced;
     resume = λ fate live t r w e b. changing-balanced fate TraceeStops.restarted t (calm_restarted t) w e b;
     listen = λ t r w e b. changing-balanced Flushed TraceeStops.listening t (calm_listening t) w e b;
-    break_others = λ g id x w b. become-balanced Flushed (Threads.throughout g (TraceeEnds.broken_by_exec id (ending.Exited 0))) (calm_throughout g (TraceeEnds.broken_by_exec id (ending.Exited 0)) (calm_broken_by_exec id (ending.Exited 0))) w b;
+    break_others = λ g id x w b. become-balanced Flushed (Threads.at_group g (TraceeEnds.begun_to_leave_by_exec id (ending.Exited 0))) (calm_throughout g (TraceeEnds.begun_to_leave_by_exec id (ending.Exited 0)) (calm_broken_by_exec id (ending.Exited 0))) w b;
     begin_death = begin_death-balanced;
     kill_group = λ g w b. begin_death-balanced g (ending.Killed 9) true (Moves.tell_killed g w) (record { at = b.at });
     enter = enter-balanced;

@@ -88,7 +88,7 @@ same_is (target.Group a) (target.Group b) e = ap target.Group (sym (eqb-true a b
 same_is (target.Thread a) (target.Group b) e = absurd (true≢false (sym e))
 same_is (target.Group a) (target.Thread b) e = absurd (true≢false (sym e))
 
-numbered_in : (n : ℕ) (i : Instance) (is : List Instance) → Takes.numbered n is ≡ Some i → In i is × (i.n ≡ n)
+numbered_in : (n : ℕ) (i : Instance) (is : List Instance) → Takes.with_number n is ≡ Some i → In i is × (i.n ≡ n)
 numbered_in n i [] e = absurd (no_instance e)
   where
     no_instance : None ≡ Some i → ⊥
@@ -98,7 +98,7 @@ numbered_in n i (j ∷ js) e = go (j.n == n) refl e (numbered_in n i js)
     same : Some j ≡ Some i → j ≡ i
     same q = cc
 
-    go : (b : Bool) → (j.n == n) ≡ b → (if b then Some j else Takes.numbered n js) ≡ Some i → (Takes.numbered n js ≡ Some i → In i js × (i.n ≡ n)) → ((j ≡ i) ⊎ In i js) × (i.n ≡ n)
+    go : (b : Bool) → (j.n == n) ≡ b → (if b then Some j else Takes.with_number n js) ≡ Some i → (Takes.with_number n js ≡ Some i → In i js × (i.n ≡ n)) → ((j ≡ i) ⊎ In i js) × (i.n ≡ n)
     go true h q ih = (inl (same q), ap (λ (k : Instance). k.n) (sym (same q)) ∙ eqb-true j.n n h)
     go false h q ih = (inr (ih q).0, (ih q).1)
 
@@ -118,13 +118,13 @@ not_before i j e h = go (nat_lt j.n i.n) refl
     go true l = absurd (true≢false (sym (and_from _ _ (eq-eqb j.sig i.sig e) l) ∙ parts (not (Signals.is_real_time j.sig) && Signals.is_real_time i.sig) (Signals.is_real_time j.sig && nat_lt j.sig i.sig) (j.sig == i.sig && nat_lt j.n i.n) h))
     go false l = ltb-false j.n i.n l
 
-chosen : (T : Table) (t : Thread) (q : Target) (n : ℕ) (i : Instance) → Takes.numbered n (Takes.choices_from T t q) ≡ Some i → Chosen T q i × (i.n ≡ n) × (Threads.is_ready_to_take t ≡ true)
+chosen : (T : Table) (t : Thread) (q : Target) (n : ℕ) (i : Instance) → Takes.with_number n (Takes.choices_from T t q) ≡ Some i → Chosen T q i × (i.n ≡ n) × (Threads.is_ready_to_take t ≡ true)
 chosen T t q n i e = go (Threads.is_ready_to_take t) refl e
   where
     us : List Instance
     us = Takes.unblocked t.mask (Tables.queue T q)
 
-    main : Takes.numbered n (Takes.choices_in (Takes.unblocked t.mask (Tables.queue T q))) ≡ Some i → Chosen T q i × (i.n ≡ n)
+    main : Takes.with_number n (Takes.choices_in (Takes.unblocked t.mask (Tables.queue T q))) ≡ Some i → Chosen T q i × (i.n ≡ n)
     main e =
         let f = numbered_in n i _ e in
         let c = in_filter (λ i. list_all (λ j. not (Takes.goes_before j i)) (Takes.unblocked t.mask (Tables.queue T q))) i (Takes.unblocked t.mask (Tables.queue T q)) f.0 in
@@ -141,7 +141,7 @@ chosen T t q n i e = go (Threads.is_ready_to_take t) refl e
           f.1,
         )
 
-    go : (b : Bool) → Threads.is_ready_to_take t ≡ b → Takes.numbered n (if b then Takes.choices_in (Takes.unblocked t.mask (Tables.queue T q)) else []) ≡ Some i → Chosen T q i × (i.n ≡ n) × (Threads.is_ready_to_take t ≡ true)
+    go : (b : Bool) → Threads.is_ready_to_take t ≡ b → Takes.with_number n (if b then Takes.choices_in (Takes.unblocked t.mask (Tables.queue T q)) else []) ≡ Some i → Chosen T q i × (i.n ≡ n) × (Threads.is_ready_to_take t ≡ true)
     go true r e = let m = main e in (m.0, m.1, r)
     go false r e = absurd (none e)
       where
@@ -183,7 +183,7 @@ all_after_without q s n m (x ∷ ws) h = go (x.instance.n == m) (all_after_witho
     go false r = (h.0, r)
 
 -- an exec's new id
-aimed_group : (from to g : ℕ) (r : Target) → Moves.aimed from to r ≡ target.Group g → r ≡ target.Group g
+aimed_group : (from to g : ℕ) (r : Target) → Moves.retarget from to r ≡ target.Group g → r ≡ target.Group g
 aimed_group from to g (target.Group h) e = e
 aimed_group from to g (target.Thread id) e = go (id == from) e
   where
@@ -194,7 +194,7 @@ aimed_group from to g (target.Thread id) e = go (id == from) e
     go true q = other to q
     go false q = q
 
-aimed_thread : (from to k : ℕ) (r : Target) → (to ≡ k → ⊥) → Moves.aimed from to r ≡ target.Thread k → r ≡ target.Thread k
+aimed_thread : (from to k : ℕ) (r : Target) → (to ≡ k → ⊥) → Moves.retarget from to r ≡ target.Thread k → r ≡ target.Thread k
 aimed_thread from to k (target.Group h) n e = e
 aimed_thread from to k (target.Thread id) n e = go (id == from) e
   where
@@ -205,7 +205,7 @@ aimed_thread from to k (target.Thread id) n e = go (id == from) e
     go true q = absurd (n (same q))
     go false q = q
 
-reaimed_after : (q : Target) (s n from to : ℕ) → ((r : Target) → Moves.aimed from to r ≡ q → r ≡ q) → (ws : List Waiting) → AllAfter q s n ws → AllAfter q s n (map (Moves.reaimed from to) ws)
+reaimed_after : (q : Target) (s n from to : ℕ) → ((r : Target) → Moves.retarget from to r ≡ q → r ≡ q) → (ws : List Waiting) → AllAfter q s n ws → AllAfter q s n (map (Moves.retargeted from to) ws)
 reaimed_after q s n from to back [] h = tt
 reaimed_after q s n from to back (x ∷ ws) h = ((λ e k. h.0 (back x.target e) k), reaimed_after q s n from to back ws h.1)
 
@@ -228,7 +228,7 @@ module _ (q : Target) (s n : ℕ) (before : List ℕ) where
   calmly : (v w : Work) → v.table.accepted ≡ w.table.accepted → v.renamed ≡ w.renamed → v.table.waiting ≡ w.table.waiting → Later w → Later v
   calmly v w a r x l = record { born = omega (arith, l.born); order = subst (λ ids. PassesOn q (before ++ ids) ⊎ AllAfter q s n v.table.waiting) (sym r) (subst (λ ws. PassesOn q (before ++ w.renamed) ⊎ AllAfter q s n ws) (sym x) l.order) }
 
-  entering-later : (t : Thread) (st : Stop) (w : Work) → Later w → Later (Moves.entering st t w)
+  entering-later : (t : Thread) (st : Stop) (w : Work) → Later w → Later (Moves.enter_if_allowed st t w)
   entering-later t st w l = go (TraceeStops.may_enter t.life)
     where
       go : (b : Bool) → Later (if b then Moves.entered_now st t w else w)
@@ -250,7 +250,7 @@ module _ (q : Target) (s n : ℕ) (before : List ℕ) where
   holding-later t None w l = l
   holding-later t (Some i) w l = go (Lives.is_free t.life)
     where
-      go : (b : Bool) → Later (if b then Moves.entering (stop.Signal i false) t (Moves.pulled i w) else w)
+      go : (b : Bool) → Later (if b then Moves.enter_if_allowed (stop.Signal i false) t (Moves.pulled i w) else w)
       go true = entering-later t (stop.Signal i false) (Moves.pulled i w) (without-later w (Moves.pulled i w) refl refl (all_after_without q s n i.n w.table.waiting) l)
       go false = l
 
@@ -274,15 +274,15 @@ module _ (q : Target) (s n : ℕ) (before : List ℕ) where
       more : PassesOn q (before ++ w.renamed) → PassesOn q (before ++ (w.renamed ++ t.group ∷ []))
       more p = subst (PassesOn q) (append_assoc before w.renamed (t.group ∷ [])) (passes_more q (before ++ w.renamed) (t.group ∷ []) p)
 
-      to_thread : (k : ℕ) → q ≡ target.Thread k → AllAfter q s n w.table.waiting → (t.group ≡ k) ⊎ (t.group ≡ k → ⊥) → PassesOn q (before ++ (w.renamed ++ t.group ∷ [])) ⊎ AllAfter q s n (map (Moves.reaimed t.id t.group) w.table.waiting)
+      to_thread : (k : ℕ) → q ≡ target.Thread k → AllAfter q s n w.table.waiting → (t.group ≡ k) ⊎ (t.group ≡ k → ⊥) → PassesOn q (before ++ (w.renamed ++ t.group ∷ [])) ⊎ AllAfter q s n (map (Moves.retargeted t.id t.group) w.table.waiting)
       to_thread k e h (inl g) = inl (subst (λ r. PassesOn r (before ++ (w.renamed ++ t.group ∷ []))) (sym (e ∙ ap target.Thread (sym g))) (subst (IsIn t.group) (append_assoc before w.renamed (t.group ∷ [])) (passes_last t.group (before ++ w.renamed))))
       to_thread k e h (inr differ) = inr (reaimed_after q s n t.id t.group (λ r x. aimed_thread t.id t.group k r differ (x ∙ e) ∙ sym e) w.table.waiting h)
 
-      by_target : (r : Target) → q ≡ r → AllAfter q s n w.table.waiting → PassesOn q (before ++ (w.renamed ++ t.group ∷ [])) ⊎ AllAfter q s n (map (Moves.reaimed t.id t.group) w.table.waiting)
+      by_target : (r : Target) → q ≡ r → AllAfter q s n w.table.waiting → PassesOn q (before ++ (w.renamed ++ t.group ∷ [])) ⊎ AllAfter q s n (map (Moves.retargeted t.id t.group) w.table.waiting)
       by_target (target.Thread k) e h = to_thread k e h (cases_eq t.group k)
       by_target (target.Group g) e h = inr (reaimed_after q s n t.id t.group (λ r x. aimed_group t.id t.group g r (x ∙ e) ∙ sym e) w.table.waiting h)
 
-      go : (b : Bool) → Later (if b then Moves.placed t w else w)
+      go : (b : Bool) → Later (if b then Moves.with_leaders_row t w else w)
       go true = record { born = l.born; order = ⊎_elim (λ p. inl (more p)) (by_target q refl) l.order }
       go false = l
 
@@ -294,7 +294,7 @@ module _ (q : Target) (s n : ℕ) (before : List ℕ) where
     break_others = λ g id x w l. calmly _ w refl refl refl l;
     begin_death = λ g st kill w l. calmly _ w refl refl refl l;
     kill_group = λ g w l. calmly _ w refl refl refl l;
-    enter = λ id st h w l. on-later _ (Moves.entering st) w (λ t. entering-later t st w l) l;
+    enter = λ id st h w l. on-later _ (Moves.enter_if_allowed st) w (λ t. entering-later t st w l) l;
     hold = λ id m w l. on-later _ (λ t. Moves.on_instance (Moves.instance_in w.table.waiting m) (Moves.holding t)) w (λ t. holding-later t _ w l) l;
     report_death = λ id st w l. on-later _ (Moves.report_dead st) w (λ t. dead-later st t w l) l;
     spawn = λ parent id mark w fresh l. on-later _ (Moves.spawned id mark) w (λ t. spawned-later id mark t w l) l;
@@ -359,7 +359,7 @@ take_later T t i q e ready c d a = go (Threads.is_traced t)
     there : (j : Instance) × (Moves.instance_in T.waiting i.n ≡ Some j) × (j.n ≡ i.n)
     there = instance_there i.n c.there.0 T.waiting c.there.1 (ap (λ (k : Instance). k.n) c.there.2)
 
-    holds : (j : Instance) → j.n ≡ i.n → (f : Bool) → f ≡ true → Later q i.sig i.n [] (if f then Moves.entering (stop.Signal j false) t (Moves.pulled j (Moves.begin T)) else Moves.begin T)
+    holds : (j : Instance) → j.n ≡ i.n → (f : Bool) → f ≡ true → Later q i.sig i.n [] (if f then Moves.enter_if_allowed (stop.Signal j false) t (Moves.pulled j (Moves.begin T)) else Moves.begin T)
     holds j n true r = entering-later q i.sig i.n [] t (stop.Signal j false) (Moves.pulled j (Moves.begin T)) (record { born = a; order = inr (subst (λ m. AllAfter q i.sig i.n (Moves.without_instance m T.waiting)) (sym n) (held_after q i.sig i.n T.waiting c.least d)) })
     holds j n false r = absurd (true≢false (sym r))
 
@@ -371,25 +371,25 @@ take_later T t i q e ready c d a = go (Threads.is_traced t)
 
 -- Entries and journals
 
-numbered-append : (n : ℕ) (i : Instance) (xs ys : List Instance) → Takes.numbered n xs ≡ Some i → Takes.numbered n (xs ++ ys) ≡ Some i
+numbered-append : (n : ℕ) (i : Instance) (xs ys : List Instance) → Takes.with_number n xs ≡ Some i → Takes.with_number n (xs ++ ys) ≡ Some i
 numbered-append n i [] ys e = absurd (none e)
   where
     none : None ≡ Some i → ⊥
     none e = cc
 numbered-append n i (x ∷ xs) ys e = go (x.n == n) e (numbered-append n i xs ys)
   where
-    go : (b : Bool) → (if b then Some x else Takes.numbered n xs) ≡ Some i → (Takes.numbered n xs ≡ Some i → Takes.numbered n (xs ++ ys) ≡ Some i) → (if b then Some x else Takes.numbered n (xs ++ ys)) ≡ Some i
+    go : (b : Bool) → (if b then Some x else Takes.with_number n xs) ≡ Some i → (Takes.with_number n xs ≡ Some i → Takes.with_number n (xs ++ ys) ≡ Some i) → (if b then Some x else Takes.with_number n (xs ++ ys)) ≡ Some i
     go true q r = q
     go false q r = r q
 
-numbered_past : (n : ℕ) (xs ys : List Instance) → Takes.numbered n xs ≡ None → Takes.numbered n (xs ++ ys) ≡ Takes.numbered n ys
+numbered_past : (n : ℕ) (xs ys : List Instance) → Takes.with_number n xs ≡ None → Takes.with_number n (xs ++ ys) ≡ Takes.with_number n ys
 numbered_past n [] ys e = refl
 numbered_past n (x ∷ xs) ys e = go (x.n == n) e (numbered_past n xs ys)
   where
     some : Some x ≡ None → ⊥
     some e = cc
 
-    go : (b : Bool) → (if b then Some x else Takes.numbered n xs) ≡ None → (Takes.numbered n xs ≡ None → Takes.numbered n (xs ++ ys) ≡ Takes.numbered n ys) → (if b then Some x else Takes.numbered n (xs ++ ys)) ≡ Takes.numbered n ys
+    go : (b : Bool) → (if b then Some x else Takes.with_number n xs) ≡ None → (Takes.with_number n xs ≡ None → Takes.with_number n (xs ++ ys) ≡ Takes.with_number n ys) → (if b then Some x else Takes.with_number n (xs ++ ys)) ≡ Takes.with_number n ys
     go true q r = absurd (some q)
     go false q r = r q
 
@@ -402,27 +402,27 @@ no_taken k e = cc
 -- what a take took, and how
 record Took (T : Table) (t : Thread) (n : ℕ) (k : Taken) : Type 0 where
   instance : Instance
-  found : Takes.numbered n (Takes.choices T t) ≡ Some instance
+  found : Takes.with_number n (Takes.choices T t) ≡ Some instance
   chose : Chosen T k.queue instance
   ready : Threads.is_ready_to_take t ≡ true
   number : k.number ≡ instance.n
   signal : k.signal ≡ instance.sig
 
 took : (T : Table) (t : Thread) (n : ℕ) (k : Taken) → Journals.taken_by T (Some t) n ≡ Some k → Took T t n k
-took T t n k e = own (Takes.numbered n (Takes.choices_from T t (target.Thread t.id))) refl e
+took T t n k e = own (Takes.with_number n (Takes.choices_from T t (target.Thread t.id))) refl e
   where
-    make : (q : Target) (i : Instance) → Takes.numbered n (Takes.choices_from T t q) ≡ Some i → Takes.numbered n (Takes.choices T t) ≡ Some i → Some (record { number = i.n; signal = i.sig; queue = q }) ≡ Some k → Took T t n k
+    make : (q : Target) (i : Instance) → Takes.with_number n (Takes.choices_from T t q) ≡ Some i → Takes.with_number n (Takes.choices T t) ≡ Some i → Some (record { number = i.n; signal = i.sig; queue = q }) ≡ Some k → Took T t n k
     make q i h f e =
         let c = chosen T t q n i h in
         let s = taken_same (record { number = i.n; signal = i.sig; queue = q }) k e in
         record { instance = i; found = f; chose = subst (λ r. Chosen T r i) (ap (λ (x : Taken). x.queue) s) c.0; ready = c.2; number = ap (λ (x : Taken). x.number) (sym s); signal = ap (λ (x : Taken). x.signal) (sym s) }
 
-    shared : Takes.numbered n (Takes.choices_from T t (target.Thread t.id)) ≡ None → (o : Option Instance) → Takes.numbered n (Takes.choices_from T t (target.Group t.group)) ≡ o → Journals.taken_if (target.Group t.group) o None ≡ Some k → Took T t n k
+    shared : Takes.with_number n (Takes.choices_from T t (target.Thread t.id)) ≡ None → (o : Option Instance) → Takes.with_number n (Takes.choices_from T t (target.Group t.group)) ≡ o → Journals.taken_if (target.Group t.group) o None ≡ Some k → Took T t n k
     shared z None h e = absurd (no_taken k e)
     shared z (Some i) h e = make (target.Group t.group) i h (numbered_past n (Takes.choices_from T t (target.Thread t.id)) (Takes.choices_from T t (target.Group t.group)) z ∙ h) e
 
-    own : (o : Option Instance) → Takes.numbered n (Takes.choices_from T t (target.Thread t.id)) ≡ o → Journals.taken_if (target.Thread t.id) o (Journals.taken_if (target.Group t.group) (Takes.numbered n (Takes.choices_from T t (target.Group t.group))) None) ≡ Some k → Took T t n k
-    own None h e = shared h (Takes.numbered n (Takes.choices_from T t (target.Group t.group))) refl e
+    own : (o : Option Instance) → Takes.with_number n (Takes.choices_from T t (target.Thread t.id)) ≡ o → Journals.taken_if (target.Thread t.id) o (Journals.taken_if (target.Group t.group) (Takes.with_number n (Takes.choices_from T t (target.Group t.group))) None) ≡ Some k → Took T t n k
+    own None h e = shared h (Takes.with_number n (Takes.choices_from T t (target.Group t.group))) refl e
     own (Some i) h e = make (target.Thread t.id) i h (numbered-append n i (Takes.choices_from T t (target.Thread t.id)) (Takes.choices_from T t (target.Group t.group)) h) e
 
 waits_there : (x : Waiting) (ws : List Waiting) → In x ws → 1 ≤ waits x.instance.n ws
@@ -450,7 +450,7 @@ by_thread T ended s a id n k e = go (Tables.thread_of T id) refl e
         subst (λ i. Later k.queue k.signal k.number [] (Moves.on_instance i (Takes.take t) (Moves.begin T))) (sym w.found)
         (subst (λ m. Later k.queue k.signal m [] (Takes.take t w.instance (Moves.begin T))) (sym w.number) (subst (λ m. Later k.queue m w.instance.n [] (Takes.take t w.instance (Moves.begin T))) (sym w.signal) l))
 
-event_later : (T : Table) (ended : List Ending) → Sound T ended → (a : ℕ) (e : Event) (c : Choice) (k : Taken) → Journals.taken_of T e c ≡ Some k → Later k.queue k.signal k.number [] (GroupStops.settle (Steps.does a e c (Moves.begin T)))
+event_later : (T : Table) (ended : List Ending) → Sound T ended → (a : ℕ) (e : Event) (c : Choice) (k : Taken) → Journals.taken_of T e c ≡ Some k → Later k.queue k.signal k.number [] (GroupStops.complete_group_stops (Steps.work_of_event a e c (Moves.begin T)))
 event_later T ended s a (event.Take id) c k e = settle-kept any any_of (Later k.queue k.signal k.number []) (moves-later k.queue k.signal k.number []) _ (by_thread T ended s a id (Steps.number c.instance) k e)
 event_later T ended s a (event.TakeAny g) c k e = settle-kept any any_of (Later k.queue k.signal k.number []) (moves-later k.queue k.signal k.number []) _ (by_thread T ended s a (Steps.number c.thread) (Steps.number c.instance) k e)
 event_later T ended s a e c k q = absurd (no_taken k q)

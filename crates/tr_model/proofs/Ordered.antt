@@ -20,7 +20,7 @@ use Rattle.tr_model.specs.Laws
 use Rattle.tr_model.specs.Steps.{Admits, work_of}
 use Rattle.tr_model.specs.Tables.{Table, thread_of}
 use Rattle.tr_model.specs.Moves as moves
-use Rattle.tr_model.specs.Moves.{Work, at, begin, instance_in, next_instance, on_instance, on_thread}
+use Rattle.tr_model.specs.Moves.{at, begin, instance_in, next_instance, on_instance, on_thread, Work}
 use Rattle.tr_model.proofs.Between.{replay_keeps}
 use Rattle.tr_model.proofs.Kept.{Kept, always-kept, any, any_of}
 use Rattle.tr_model.proofs.Sorted.{sorted_filter, sorted_less, sorted_more, sorted_reaimed, up_to_filter, up_to_later, up_to_less, up_to_more, up_to_reaimed}
@@ -52,7 +52,7 @@ alter_ordered f w p = record { sorted = p.sorted; up_to = p.up_to }
 pub become_ordered : (fate : Fate) (f : Thread → Thread) (w : Work) → Ordered w → Ordered (moves.become fate f w)
 become_ordered fate f w p = record { sorted = p.sorted; up_to = p.up_to }
 
-pub changing_ordered : (fate : Fate) (f : Thread → Thread) (t : Thread) (w : Work) → Ordered w → Ordered (moves.changing fate f t w)
+pub changing_ordered : (fate : Fate) (f : Thread → Thread) (t : Thread) (w : Work) → Ordered w → Ordered (moves.change_ending fate f t w)
 changing_ordered fate f t w p = record { sorted = p.sorted; up_to = p.up_to }
 
 pub resume_ordered : (fate : Fate) (t : Thread) (w : Work) → Ordered w → Ordered (Requests.resume fate t w)
@@ -82,14 +82,14 @@ drop_empty_ordered g w p = record { sorted = p.sorted; up_to = p.up_to }
 pub remove_dead_ordered : (p : Thread → Bool) (w : Work) → Ordered w → Ordered (moves.remove_dead p w)
 remove_dead_ordered p w h = record { sorted = h.sorted; up_to = h.up_to }
 
-raising_ordered : (f : Thread → Thread) (t : Thread) (s : Status) (w : Work) → Ordered w → Ordered (moves.raising f t s w)
+raising_ordered : (f : Thread → Thread) (t : Thread) (s : Status) (w : Work) → Ordered w → Ordered (moves.raise_with f t s w)
 raising_ordered f t s w p = record { sorted = p.sorted; up_to = p.up_to }
 
-entering_ordered : (s : Stop) (t : Thread) (w : Work) → Ordered w → Ordered (moves.entering s t w)
+entering_ordered : (s : Stop) (t : Thread) (w : Work) → Ordered w → Ordered (moves.enter_if_allowed s t w)
 entering_ordered s t w p = either _ _ _ (raising_ordered _ t _ w p) p
 
 pub enter_ordered : (id : ℕ) (s : Stop) (w : Work) → Ordered w → Ordered (moves.enter id s w)
-enter_ordered id s w p = of_thread (moves.entering s) (entering_ordered s) (thread_of w.table id) w p
+enter_ordered id s w p = of_thread (moves.enter_if_allowed s) (entering_ordered s) (thread_of w.table id) w p
 
 pub report_death_ordered : (id : ℕ) (e : End) (w : Work) → Ordered w → Ordered (moves.report_death id e w)
 report_death_ordered id e w p = of_thread (moves.report_dead e) (λ t x q. either _ _ _ (raising_ordered _ t _ x q) q) (thread_of w.table id) w p
@@ -119,7 +119,7 @@ pulled_ordered i w p = record { sorted = sorted_less i.n w.table.waiting p.sorte
 pub hold_ordered : (id n : ℕ) (w : Work) → Ordered w → Ordered (moves.hold id n w)
 hold_ordered id n w p = of_thread (λ t. on_instance (instance_in w.table.waiting n) (moves.holding t)) (λ t x q. of_instance (moves.holding t) (λ i y r. either _ _ _ (entering_ordered _ t _ (pulled_ordered i y r)) r) (instance_in w.table.waiting n) x q) (thread_of w.table id) w p
 
-placed_ordered : (t : Thread) (w : Work) → Ordered w → Ordered (moves.placed t w)
+placed_ordered : (t : Thread) (w : Work) → Ordered w → Ordered (moves.with_leaders_row t w)
 placed_ordered t w p = record { sorted = sorted_reaimed t.id t.group w.table.waiting p.sorted; up_to = up_to_reaimed t.id t.group w.table.accepted w.table.waiting p.up_to }
 
 pub take_place_ordered : (id : ℕ) (w : Work) → Ordered w → Ordered (moves.take_place id w)

@@ -177,7 +177,7 @@ module _ (before : List Raise) (taken : List ℕ) where
     groups = p.groups;
   }
 
-  changing-reported : (fate : Fate) (f : Thread → Thread) (t : Thread) → Calm t (f t) → (w : Work) → Tables.thread_of w.table t.id ≡ Some t → Reported before taken w → Reported before taken (Moves.changing fate f t w)
+  changing-reported : (fate : Fate) (f : Thread → Thread) (t : Thread) → Calm t (f t) → (w : Work) → Tables.thread_of w.table t.id ≡ Some t → Reported before taken w → Reported before taken (Moves.change_ending fate f t w)
   changing-reported fate f t c w e p = record {
     count = λ r. omega (arith, p.count r, total_changed (reports r) t.id f t w.table.threads e, calm_less r t (f t) c);
     threads = each_changed (Owned (before ++ w.raises)) t.id f t (calm_owned (before ++ w.raises) t (f t) c (each_found (Owned (before ++ w.raises)) t.id t w.table.threads e p.threads)) w.table.threads e p.threads;
@@ -194,14 +194,14 @@ module _ (before : List Raise) (taken : List ℕ) where
   death-reported : (g : ℕ) (s : End) (kill : Bool) (w : Work) → Reported before taken w → Reported before taken (Deaths.begin_death g s kill w)
   death-reported g s kill w p =
       let now = Deaths.first_end (Tables.group_end w.table g) s in
-      let q = map-reported (Threads.throughout g (TraceeEnds.broken kill now)) (calm_throughout g (TraceeEnds.broken kill now) (calm_broken kill now)) _
+      let q = map-reported (Threads.at_group g (TraceeEnds.begun_to_leave kill now)) (calm_throughout g (TraceeEnds.begun_to_leave kill now) (calm_broken kill now)) _
       (regroup-reported (Moves.only_group g (Deaths.dying_with s)) (calm_group g (Deaths.dying_with s) (without_note _ (λ x. refl) (λ x. refl))) w p) in
       record { count = q.count; threads = q.threads; groups = q.groups }
 
   -- f raises the next report on the thread
   raising-reported : (f : Thread → Thread) (t : Thread) (st : Status) (w : Work) → Tables.thread_of w.table t.id ≡ Some t
       → (f t).report ≡ Some (record { number = w.table.raised + 1; status = st }) → (f t).trace ≡ t.trace → Reported before taken w
-      → Reported before taken (Moves.raising f t st w)
+      → Reported before taken (Moves.raise_with f t st w)
   raising-reported f t st w e n c p =
       let whole : (before ++ w.raises) ++ record { number = w.table.raised + 1; whom = Threads.tracer_of t.trace; id = t.id; status = st } ∷ [] ≡ before ++ (w.raises ++ record { number = w.table.raised + 1; whom = Threads.tracer_of t.trace; id = t.id; status = st } ∷ []) = append_assoc before w.raises _ in
       record {
@@ -218,7 +218,7 @@ module _ (before : List Raise) (taken : List ℕ) where
       go None e = d
       go (Some t) e = h t (itself w.table.threads id t e)
 
-  entering-reported : (t : Thread) (s : Stop) (w : Work) → Tables.thread_of w.table t.id ≡ Some t → Reported before taken w → Reported before taken (Moves.entering s t w)
+  entering-reported : (t : Thread) (s : Stop) (w : Work) → Tables.thread_of w.table t.id ≡ Some t → Reported before taken w → Reported before taken (Moves.enter_if_allowed s t w)
   entering-reported t s w e p = go (TraceeStops.may_enter t.life)
     where
       go : (m : Bool) → Reported before taken (if m then Moves.entered_now s t w else w)
@@ -229,7 +229,7 @@ module _ (before : List Raise) (taken : List ℕ) where
   holding-reported t None w e p = p
   holding-reported t (Some i) w e p = go (Lives.is_free t.life)
     where
-      go : (f : Bool) → Reported before taken (if f then Moves.entering (stop.Signal i false) t (Moves.pulled i w) else w)
+      go : (f : Bool) → Reported before taken (if f then Moves.enter_if_allowed (stop.Signal i false) t (Moves.pulled i w) else w)
       go true = entering-reported t (stop.Signal i false) (Moves.pulled i w) e (record { count = p.count; threads = p.threads; groups = p.groups })
       go false = p
 
@@ -254,24 +254,24 @@ module _ (before : List Raise) (taken : List ℕ) where
   placed-reported : (t : Thread) (w : Work) → Tables.thread_of w.table t.id ≡ Some t → Reported before taken w → Reported before taken (Moves.taking_place t w)
   placed-reported t w e p = go (Lives.is_execing t.life && not (t.id == t.group))
     where
-      fewer : (r : ℕ) (x : Thread) → reports r (Moves.in_place t x) ≤ reports r x
+      fewer : (r : ℕ) (x : Thread) → reports r (Moves.in_leaders_row t x) ≤ reports r x
       fewer r x = at_place (x.id == t.group && Lives.is_dead x.life)
         where
           at_place : (b : Bool) → reports r (if b then Moves.renamed t.group t else x) ≤ reports r x
           at_place true = omega arith
           at_place false = omega arith
 
-      owned : (x : Thread) → Owned (before ++ w.raises) x → Owned (before ++ w.raises) (Moves.in_place t x)
+      owned : (x : Thread) → Owned (before ++ w.raises) x → Owned (before ++ w.raises) (Moves.in_leaders_row t x)
       owned x h = at_place (x.id == t.group && Lives.is_dead x.life)
         where
           at_place : (b : Bool) → Owned (before ++ w.raises) (if b then Moves.renamed t.group t else x)
           at_place true = λ y q. absurd (is_some_not y q)
           at_place false = h
 
-      go : (b : Bool) → Reported before taken (if b then Moves.placed t w else w)
+      go : (b : Bool) → Reported before taken (if b then Moves.with_leaders_row t w else w)
       go true = record {
-        count = λ r. omega (arith, p.count r, total_less (reports r) (Moves.in_place t) (fewer r) (Moves.dropped t.id w.table.threads), total_dropped (reports r) t.id t w.table.threads e);
-        threads = each_map (Owned (before ++ w.raises)) (Owned (before ++ w.raises)) (Moves.in_place t) owned (Moves.dropped t.id w.table.threads) (each_dropped (Owned (before ++ w.raises)) t.id w.table.threads p.threads);
+        count = λ r. omega (arith, p.count r, total_less (reports r) (Moves.in_leaders_row t) (fewer r) (Moves.dropped t.id w.table.threads), total_dropped (reports r) t.id t w.table.threads e);
+        threads = each_map (Owned (before ++ w.raises)) (Owned (before ++ w.raises)) (Moves.in_leaders_row t) owned (Moves.dropped t.id w.table.threads) (each_dropped (Owned (before ++ w.raises)) t.id w.table.threads p.threads);
         groups = p.groups;
       }
       go false = p
@@ -292,10 +292,10 @@ module _ (before : List Raise) (taken : List ℕ) where
     alter = λ f h w p. map-reported f (λ t. (h t).calm) w p;
     resume = λ fate live t r w e p. changing-reported fate TraceeStops.restarted t (calm_restarted t) w e p;
     listen = λ t r w e p. changing-reported Flushed TraceeStops.listening t (calm_listening t) w e p;
-    break_others = λ g id x w p. let q = map-reported (Threads.throughout g (TraceeEnds.broken_by_exec id (ending.Exited 0))) (calm_throughout g _ (calm_broken_by_exec id (ending.Exited 0))) w p in record { count = q.count; threads = q.threads; groups = q.groups };
+    break_others = λ g id x w p. let q = map-reported (Threads.at_group g (TraceeEnds.begun_to_leave_by_exec id (ending.Exited 0))) (calm_throughout g _ (calm_broken_by_exec id (ending.Exited 0))) w p in record { count = q.count; threads = q.threads; groups = q.groups };
     begin_death = death-reported;
     kill_group = λ g w p. let q = death-reported g (ending.Killed 9) true w p in record { count = q.count; threads = q.threads; groups = q.groups };
-    enter = λ id s h w p. at-reported id (Moves.entering s) w (λ t e. entering-reported t s w e p) p;
+    enter = λ id s h w p. at-reported id (Moves.enter_if_allowed s) w (λ t e. entering-reported t s w e p) p;
     hold = λ id n w p. at-reported id (λ t. Moves.on_instance (Moves.instance_in w.table.waiting n) (Moves.holding t)) w (λ t e. holding-reported t _ w e p) p;
     report_death = λ id s w p. at-reported id (Moves.report_dead s) w (λ t e. dead-reported s t w e p) p;
     spawn = λ parent id mark w n p. at-reported parent (Moves.spawned id mark) w (λ t e. spawned-reported id mark t w p) p;

@@ -213,16 +213,16 @@ module _ (id a g : ℕ) (Flag : Type 0) where
       let c = (h s.thread).calm in let k = (h s.thread).stays a s.stopped s.tracer in
       inl (record { thread = f s.thread; found = found_map f (λ x. (h x).calm.id) id s.thread w.table.threads s.found; stopped = k.0; tracer = k.1; group = c.group ∙ s.group; silent = same_calm f s.thread c s.silent }))
 
-  changing-stays : (fate : Fate) (f : Thread → Thread) (t : Thread) → Calm t (f t) → may_restart (leave t) → (w : Work) → Tables.thread_of w.table t.id ≡ Some t → Stays w → Stays (Moves.changing fate f t w)
-  changing-stays fate f t c r w e = moving (Moves.changing fate f t w) w refl (λ s. go s (cases_eq t.id id))
+  changing-stays : (fate : Fate) (f : Thread → Thread) (t : Thread) → Calm t (f t) → may_restart (leave t) → (w : Work) → Tables.thread_of w.table t.id ≡ Some t → Stays w → Stays (Moves.change_ending fate f t w)
+  changing-stays fate f t c r w e = moving (Moves.change_ending fate f t w) w refl (λ s. go s (cases_eq t.id id))
     where
-      go : Still w.table → (t.id ≡ id) ⊎ (t.id ≡ id → ⊥) → Still (Moves.changing fate f t w).table ⊎ Flag
+      go : Still w.table → (t.id ≡ id) ⊎ (t.id ≡ id → ⊥) → Still (Moves.change_ending fate f t w).table ⊎ Flag
       go s (inl i) = let st = same_thread s.thread t (sym s.found ∙ (ap (Tables.thread_in w.table.threads) (sym i) ∙ e)) in inr (r i (ap (λ (x : Thread). Threads.tracer_of x.trace) (sym st) ∙ s.tracer))
       go s (inr d) = inl (record { thread = s.thread; found = found_other f t id s.thread d c.id w.table.threads e s.found; stopped = s.stopped; tracer = s.tracer; group = s.group; silent = s.silent })
 
   -- a change throughout another group
-  elsewhere : (h : ℕ) (f : Thread → Thread) → ((t : Thread) → Calm t (f t)) → (h ≡ g → ⊥) → (ts : List Thread) → (s : Thread) → s.group ≡ g → Tables.thread_in ts id ≡ Some s → Tables.thread_in (map (Threads.throughout h f) ts) id ≡ Some s
-  elsewhere h f c d ts s k e = found_map (Threads.throughout h f) (λ x. (calm_throughout h f c x).id) id s ts e ∙ ap Some (stays (s.group == h) refl)
+  elsewhere : (h : ℕ) (f : Thread → Thread) → ((t : Thread) → Calm t (f t)) → (h ≡ g → ⊥) → (ts : List Thread) → (s : Thread) → s.group ≡ g → Tables.thread_in ts id ≡ Some s → Tables.thread_in (map (Threads.at_group h f) ts) id ≡ Some s
+  elsewhere h f c d ts s k e = found_map (Threads.at_group h f) (λ x. (calm_throughout h f c x).id) id s ts e ∙ ap Some (stays (s.group == h) refl)
     where
       stays : (b : Bool) → (s.group == h) ≡ b → (if b then f s else s) ≡ s
       stays true q = absurd (d (sym (eqb-true s.group h q) ∙ k))
@@ -235,36 +235,36 @@ module _ (id a g : ℕ) (Flag : Type 0) where
     where
       go : (h ≡ g) ⊎ (h ≡ g → ⊥) → Stays (Deaths.begin_death h st kill w)
       go (inl e) = inl (inr (subst (λ k. IsIn k (w.dying ++ h ∷ [])) e (is_in-last h w.dying)))
-      go (inr d) = inl (inl (record { thread = s.thread; found = elsewhere h (TraceeEnds.broken kill _) (calm_broken kill _) d w.table.threads s.thread s.group s.found; stopped = s.stopped; tracer = s.tracer; group = s.group; silent = s.silent }))
+      go (inr d) = inl (inl (record { thread = s.thread; found = elsewhere h (TraceeEnds.begun_to_leave kill _) (calm_broken kill _) d w.table.threads s.thread s.group s.found; stopped = s.stopped; tracer = s.tracer; group = s.group; silent = s.silent }))
 
   -- an exec leaves the thread that makes it
-  itself_left : (h x : ℕ) (e : End) (s : Thread) → s.id ≡ x → Threads.throughout h (TraceeEnds.broken_by_exec x e) s ≡ s
+  itself_left : (h x : ℕ) (e : End) (s : Thread) → s.id ≡ x → Threads.at_group h (TraceeEnds.begun_to_leave_by_exec x e) s ≡ s
   itself_left h x e s i = outer (s.group == h)
     where
-      inner : (b : Bool) → b ≡ true → (if b then s else TraceeEnds.broken false (TraceeEnds.own_end e s.life) s) ≡ s
+      inner : (b : Bool) → b ≡ true → (if b then s else TraceeEnds.begun_to_leave false (TraceeEnds.own_end e s.life) s) ≡ s
       inner true q = refl
       inner false q = absurd (true≢false (sym q))
 
-      outer : (b : Bool) → (if b then TraceeEnds.broken_by_exec x e s else s) ≡ s
+      outer : (b : Bool) → (if b then TraceeEnds.begun_to_leave_by_exec x e s else s) ≡ s
       outer true = inner (s.id == x) (eq-eqb s.id x i)
       outer false = refl
 
   break-stays : (h x : ℕ) → may_break h x → (w : Work) → Stays w → Stays (Execs.break_others h x w)
   break-stays h x b w = moving (Execs.break_others h x w) w refl (λ s. go s (cases_eq h g) (cases_eq x id))
     where
-      left : (s : Still w.table) → Tables.thread_in (map (Threads.throughout h (TraceeEnds.broken_by_exec x (ending.Exited 0))) w.table.threads) id ≡ Some s.thread → Still (Execs.break_others h x w).table ⊎ Flag
+      left : (s : Still w.table) → Tables.thread_in (map (Threads.at_group h (TraceeEnds.begun_to_leave_by_exec x (ending.Exited 0))) w.table.threads) id ≡ Some s.thread → Still (Execs.break_others h x w).table ⊎ Flag
       left s e = inl (record { thread = s.thread; found = e; stopped = s.stopped; tracer = s.tracer; group = s.group; silent = s.silent })
 
       go : Still w.table → (h ≡ g) ⊎ (h ≡ g → ⊥) → (x ≡ id) ⊎ (x ≡ id → ⊥) → Still (Execs.break_others h x w).table ⊎ Flag
       go s (inl e) (inr n) = inr (b e n)
-      go s (inl e) (inl i) = left s (found_map (Threads.throughout h (TraceeEnds.broken_by_exec x (ending.Exited 0))) (λ y. (calm_throughout h (TraceeEnds.broken_by_exec x (ending.Exited 0)) (calm_broken_by_exec x (ending.Exited 0)) y).id) id s.thread w.table.threads s.found ∙ ap Some (itself_left h x (ending.Exited 0) s.thread (found_id w.table.threads id s.thread s.found ∙ sym i)))
-      go s (inr d) n = left s (elsewhere h (TraceeEnds.broken_by_exec x (ending.Exited 0)) (calm_broken_by_exec x (ending.Exited 0)) d w.table.threads s.thread s.group s.found)
+      go s (inl e) (inl i) = left s (found_map (Threads.at_group h (TraceeEnds.begun_to_leave_by_exec x (ending.Exited 0))) (λ y. (calm_throughout h (TraceeEnds.begun_to_leave_by_exec x (ending.Exited 0)) (calm_broken_by_exec x (ending.Exited 0)) y).id) id s.thread w.table.threads s.found ∙ ap Some (itself_left h x (ending.Exited 0) s.thread (found_id w.table.threads id s.thread s.found ∙ sym i)))
+      go s (inr d) n = left s (elsewhere h (TraceeEnds.begun_to_leave_by_exec x (ending.Exited 0)) (calm_broken_by_exec x (ending.Exited 0)) d w.table.threads s.thread s.group s.found)
 
   -- a report raised on a thread that isn't in a stop
-  raising-stays : (f : Thread → Thread) (t : Thread) (st : Status) → (f t).id ≡ t.id → (Lives.is_in_stop t.life ≡ true → ⊥) → (w : Work) → Tables.thread_of w.table t.id ≡ Some t → Stays w → Stays (Moves.raising f t st w)
-  raising-stays f t st k n w e = moving (Moves.raising f t st w) w refl (λ s. go s (cases_eq t.id id))
+  raising-stays : (f : Thread → Thread) (t : Thread) (st : Status) → (f t).id ≡ t.id → (Lives.is_in_stop t.life ≡ true → ⊥) → (w : Work) → Tables.thread_of w.table t.id ≡ Some t → Stays w → Stays (Moves.raise_with f t st w)
+  raising-stays f t st k n w e = moving (Moves.raise_with f t st w) w refl (λ s. go s (cases_eq t.id id))
     where
-      go : Still w.table → (t.id ≡ id) ⊎ (t.id ≡ id → ⊥) → Still (Moves.raising f t st w).table ⊎ Flag
+      go : Still w.table → (t.id ≡ id) ⊎ (t.id ≡ id → ⊥) → Still (Moves.raise_with f t st w).table ⊎ Flag
       go s (inl i) = let st = same_thread s.thread t (sym s.found ∙ (ap (Tables.thread_in w.table.threads) (sym i) ∙ e)) in absurd (n (ap (λ (x : Thread). Lives.is_in_stop x.life) (sym st) ∙ s.stopped))
       go s (inr d) = inl (record { thread = s.thread; found = found_other f t id s.thread d k w.table.threads e s.found; stopped = s.stopped; tracer = s.tracer; group = s.group; silent = s.silent })
 
@@ -275,7 +275,7 @@ module _ (id a g : ℕ) (Flag : Type 0) where
       go None e = d
       go (Some t) e = h t (itself w.table.threads i t e)
 
-  entering-stays : (t : Thread) (s : Stop) (w : Work) → Tables.thread_of w.table t.id ≡ Some t → Stays w → Stays (Moves.entering s t w)
+  entering-stays : (t : Thread) (s : Stop) (w : Work) → Tables.thread_of w.table t.id ≡ Some t → Stays w → Stays (Moves.enter_if_allowed s t w)
   entering-stays t s w e p = go (TraceeStops.may_enter t.life) refl
     where
       go : (b : Bool) → TraceeStops.may_enter t.life ≡ b → Stays (if b then Moves.entered_now s t w else w)
@@ -286,7 +286,7 @@ module _ (id a g : ℕ) (Flag : Type 0) where
   holding-stays t None w e p = p
   holding-stays t (Some i) w e p = go (Lives.is_free t.life)
     where
-      go : (b : Bool) → Stays (if b then Moves.entering (stop.Signal i false) t (Moves.pulled i w) else w)
+      go : (b : Bool) → Stays (if b then Moves.enter_if_allowed (stop.Signal i false) t (Moves.pulled i w) else w)
       go true = entering-stays t (stop.Signal i false) (Moves.pulled i w) e (moving (Moves.pulled i w) w refl (λ s. inl (again s)) p)
         where
           again : Still w.table → Still (Moves.pulled i w).table
@@ -316,24 +316,24 @@ module _ (id a g : ℕ) (Flag : Type 0) where
   placed-stays : (t : Thread) (w : Work) → Tables.thread_of w.table t.id ≡ Some t → Stays w → Stays (Moves.taking_place t w)
   placed-stays t w e p = go (Lives.is_execing t.life && not (t.id == t.group)) refl
     where
-      ids : (x : Thread) → (Moves.in_place t x).id ≡ x.id
+      ids : (x : Thread) → (Moves.in_leaders_row t x).id ≡ x.id
       ids x = at_place (x.id == t.group && Lives.is_dead x.life) refl
         where
           at_place : (b : Bool) → (x.id == t.group && Lives.is_dead x.life) ≡ b → (if b then Moves.renamed t.group t else x).id ≡ x.id
           at_place true q = sym (eqb-true x.id t.group (and_parts _ _ q).0)
           at_place false q = refl
 
-      kept : (s : Thread) → Lives.is_in_stop s.life ≡ true → Moves.in_place t s ≡ s
+      kept : (s : Thread) → Lives.is_in_stop s.life ≡ true → Moves.in_leaders_row t s ≡ s
       kept s h = at_place (s.id == t.group && Lives.is_dead s.life) (and_right (s.id == t.group) _ (in_stop_not_dead s.life h))
         where
           at_place : (b : Bool) → b ≡ false → (if b then Moves.renamed t.group t else s) ≡ s
           at_place true q = absurd (true≢false q)
           at_place false q = refl
 
-      go : (b : Bool) → (Lives.is_execing t.life && not (t.id == t.group)) ≡ b → Stays (if b then Moves.placed t w else w)
-      go true q = moving (Moves.placed t w) w refl (λ s. inl (record {
+      go : (b : Bool) → (Lives.is_execing t.life && not (t.id == t.group)) ≡ b → Stays (if b then Moves.with_leaders_row t w else w)
+      go true q = moving (Moves.with_leaders_row t w) w refl (λ s. inl (record {
         thread = s.thread;
-        found = found_map (Moves.in_place t) ids id s.thread _ (found_dropped t.id id s.thread (λ i. differs s i) w.table.threads s.found) ∙ ap Some (kept s.thread s.stopped);
+        found = found_map (Moves.in_leaders_row t) ids id s.thread _ (found_dropped t.id id s.thread (λ i. differs s i) w.table.threads s.found) ∙ ap Some (kept s.thread s.stopped);
         stopped = s.stopped;
         tracer = s.tracer;
         group = s.group;
@@ -352,7 +352,7 @@ module _ (id a g : ℕ) (Flag : Type 0) where
     break_others = break-stays;
     begin_death = death-stays;
     kill_group = λ h w p. death-stays h (ending.Killed 9) true (Moves.tell_killed h w) (moving (Moves.tell_killed h w) w refl (again w.table w.table refl) p);
-    enter = λ i s h w p. at-stays i (Moves.entering s) w (λ t e. entering-stays t s w e p) p;
+    enter = λ i s h w p. at-stays i (Moves.enter_if_allowed s) w (λ t e. entering-stays t s w e p) p;
     hold = λ i n w p. at-stays i (λ t. Moves.on_instance (Moves.instance_in w.table.waiting n) (Moves.holding t)) w (λ t e. holding-stays t _ w e p) p;
     report_death = λ i s w p. at-stays i (Moves.report_dead s) w (λ t e. dead-stays s t w e p) p;
     spawn = λ parent i mark w n p. at-stays parent (Moves.spawned i mark) w (λ t e. spawned-stays i mark t w p) p;
@@ -409,9 +409,9 @@ replay_still id a g T U (e ∷ es) (x ∷ rs) s r = go (entry_still id a g T e r
 
 -- settling touches no thread
 
-settles_threads : (w : Work) (xs : List ℕ) → (Moves.each xs GroupStops.settle_group w).table.threads ≡ w.table.threads
+settles_threads : (w : Work) (xs : List ℕ) → (Moves.each xs GroupStops.complete_group_stop w).table.threads ≡ w.table.threads
 settles_threads w [] = refl
-settles_threads w (x ∷ xs) = settles_threads (GroupStops.settle_group x w) xs ∙ one_group (GroupKinds.is_stopping (Tables.stop_of (Tables.group_of w.table x)) && not (Tables.has_stop_mark w.table x))
+settles_threads w (x ∷ xs) = settles_threads (GroupStops.complete_group_stop x w) xs ∙ one_group (GroupKinds.is_stopping (Tables.stop_of (Tables.group_of w.table x)) && not (Tables.has_stop_mark w.table x))
   where
     noted : (b : Bool) (s : Signal) (v : Work) → (if b then Moves.note x (status.Stopped s) v else v).table.threads ≡ v.table.threads
     noted true s v = refl
@@ -421,8 +421,8 @@ settles_threads w (x ∷ xs) = settles_threads (GroupStops.settle_group x w) xs 
     by_signal None v = refl
     by_signal (Some s) v = noted (not (Tables.has_traced v.table x)) s v
 
-    one_group : (b : Bool) → (if b then GroupStops.fill_stop x w else w).table.threads ≡ w.table.threads
-    one_group true = by_signal (Tables.stop_in_effect w.table x) (Moves.regroup (Moves.only_group x GroupStops.full) w)
+    one_group : (b : Bool) → (if b then GroupStops.complete_stop x w else w).table.threads ≡ w.table.threads
+    one_group true = by_signal (Tables.stop_in_effect w.table x) (Moves.regroup (Moves.only_group x GroupStops.completed_group) w)
     one_group false = refl
 
 -- the wait leaves the thread in its stop, with no report
@@ -433,20 +433,20 @@ tracer_of_found T a which r t e =
     tracer_is a t.trace (member_filter _ t T.threads (member_filter _ t (Requests.tracees T a) f.0).0).1
 
 waited_still : (T : Table) (e : Entry) (t : Thread) → WaitsFor T e t → Still t.id e.actor t.group ⊥ (Steps.work_of T e).table
-waited_still T e t w = subst (λ ev. Still t.id e.actor t.group ⊥ (GroupStops.settle (Steps.does e.actor ev e.choice (Moves.begin T))).table) (sym w.2) by_wait
+waited_still T e t w = subst (λ ev. Still t.id e.actor t.group ⊥ (GroupStops.complete_group_stops (Steps.work_of_event e.actor ev e.choice (Moves.begin T))).table) (sym w.2) by_wait
   where
-    not_dead : (b : Bool) → b ≡ false → (if b then (if Threads.is_leader t then Ends.pass_on t t.report (Moves.begin T) else Ends.remove_thread t (Moves.begin T)) else Moves.alter (Threads.only t.id TraceeStops.told_nothing) (Moves.begin T)) ≡ Moves.alter (Threads.only t.id TraceeStops.told_nothing) (Moves.begin T)
+    not_dead : (b : Bool) → b ≡ false → (if b then (if Threads.is_leader t then Ends.pass_on t t.report (Moves.begin T) else Ends.remove_thread t (Moves.begin T)) else Moves.alter (Threads.at_thread t.id TraceeStops.without_report) (Moves.begin T)) ≡ Moves.alter (Threads.at_thread t.id TraceeStops.without_report) (Moves.begin T)
     not_dead true h = absurd (true≢false h)
     not_dead false h = refl
 
-    by_wait : Still t.id e.actor t.group ⊥ (GroupStops.settle (Moves.on_thread (Waits.ready_thread T e.actor w.0 (Steps.number e.choice.report)) Waits.consume (Moves.begin T))).table
+    by_wait : Still t.id e.actor t.group ⊥ (GroupStops.complete_group_stops (Moves.on_thread (Waits.ready_thread T e.actor w.0 (Steps.number e.choice.report)) Waits.consume (Moves.begin T))).table
     by_wait =
-        let v : Work = Moves.alter (Threads.only t.id TraceeStops.told_nothing) (Moves.begin T) in
+        let v : Work = Moves.alter (Threads.at_thread t.id TraceeStops.without_report) (Moves.begin T) in
         let c : Moves.on_thread (Waits.ready_thread T e.actor w.0 (Steps.number e.choice.report)) Waits.consume (Moves.begin T) ≡ v = ap (λ o. Moves.on_thread o Waits.consume (Moves.begin T)) (ap (Waits.ready_thread T e.actor w.0) (ap Steps.number w.3) ∙ w.4) ∙ not_dead (Lives.is_dead t.life) (in_stop_not_dead t.life w.6) in
-        subst (λ x. Still t.id e.actor t.group ⊥ (GroupStops.settle x).table) (sym c)
+        subst (λ x. Still t.id e.actor t.group ⊥ (GroupStops.complete_group_stops x).table) (sym c)
         (record {
-          thread = TraceeStops.told_nothing t;
-          found = ap (λ ts. Tables.thread_in ts t.id) (settles_threads v (map (λ x. x.tgid) v.table.groups)) ∙ (found_map (Threads.only t.id TraceeStops.told_nothing) (λ x. (tame_only t.id TraceeStops.told_nothing tame_told_nothing x).calm.id) t.id t T.threads w.5 ∙ ap Some (here t.id TraceeStops.told_nothing t refl));
+          thread = TraceeStops.without_report t;
+          found = ap (λ ts. Tables.thread_in ts t.id) (settles_threads v (map (λ x. x.tgid) v.table.groups)) ∙ (found_map (Threads.at_thread t.id TraceeStops.without_report) (λ x. (tame_only t.id TraceeStops.without_report tame_told_nothing x).calm.id) t.id t T.threads w.5 ∙ ap Some (here t.id TraceeStops.without_report t refl));
           stopped = w.6;
           tracer = tracer_of_found T e.actor w.0 w.1 t w.4;
           group = refl;

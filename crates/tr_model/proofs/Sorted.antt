@@ -4,7 +4,7 @@ use Rattle.std.specs.Prelude.{filter}
 use Rattle.tr_pending.specs.declared.instance.Instance.{Instance}
 use Rattle.tr_model.specs.declared.rows.Waiting.{Waiting}
 use Rattle.tr_model.specs.Journals.{AllAbove, AllUpTo, IsSorted}
-use Rattle.tr_model.specs.Moves.{reaimed, without_instance}
+use Rattle.tr_model.specs.Moves.{retargeted, without_instance}
 
 -- Filters
 
@@ -54,15 +54,15 @@ up_to_less m n (q ∷ qs) h = elim (q.instance.n == m) as (λ b. AllUpTo n (if b
 
 -- Queues passed on
 
-above_reaimed : (from to n : ℕ) (qs : List Waiting) → AllAbove n qs → AllAbove n (map (reaimed from to) qs)
+above_reaimed : (from to n : ℕ) (qs : List Waiting) → AllAbove n qs → AllAbove n (map (retargeted from to) qs)
 above_reaimed from to n [] h = tt
 above_reaimed from to n (q ∷ qs) h = (h.0, above_reaimed from to n qs h.1)
 
-pub sorted_reaimed : (from to : ℕ) (qs : List Waiting) → IsSorted qs → IsSorted (map (reaimed from to) qs)
+pub sorted_reaimed : (from to : ℕ) (qs : List Waiting) → IsSorted qs → IsSorted (map (retargeted from to) qs)
 sorted_reaimed from to [] h = tt
 sorted_reaimed from to (q ∷ qs) h = (above_reaimed from to q.instance.n qs h.0, sorted_reaimed from to qs h.1)
 
-pub up_to_reaimed : (from to n : ℕ) (qs : List Waiting) → AllUpTo n qs → AllUpTo n (map (reaimed from to) qs)
+pub up_to_reaimed : (from to n : ℕ) (qs : List Waiting) → AllUpTo n qs → AllUpTo n (map (retargeted from to) qs)
 up_to_reaimed from to n [] h = tt
 up_to_reaimed from to n (q ∷ qs) h = (h.0, up_to_reaimed from to n qs h.1)
 

@@ -46,24 +46,24 @@ tame_speaks t u c h x e s = go c.calm.reports
     go (inl n) = absurd (no_report x (sym n ∙ e))
     go (inr r) = c.stops (h x (sym r.0 ∙ e) s)
 
-throughout_speaks : (g : ℕ) (f : Thread → Thread) → ((t : Thread) → Speaks t → Speaks (f t)) → (t : Thread) → Speaks t → Speaks (Threads.throughout g f t)
+throughout_speaks : (g : ℕ) (f : Thread → Thread) → ((t : Thread) → Speaks t → Speaks (f t)) → (t : Thread) → Speaks t → Speaks (Threads.at_group g f t)
 throughout_speaks g f c t h = go (t.group == g)
   where
     go : (b : Bool) → Speaks (if b then f t else t)
     go true = c t h
     go false = h
 
-broken_speaks : (kill : Bool) (s : End) (t : Thread) → Speaks t → Speaks (TraceeEnds.broken kill s t)
+broken_speaks : (kill : Bool) (s : End) (t : Thread) → Speaks t → Speaks (TraceeEnds.begun_to_leave kill s t)
 broken_speaks kill s t h = go (Lives.is_dead t.life)
   where
-    go : (b : Bool) → Speaks (if b then t else TraceeEnds.out kill s t)
+    go : (b : Bool) → Speaks (if b then t else TraceeEnds.leaving_with kill s t)
     go true = h
-    go false = silent (TraceeEnds.out kill s t) refl
+    go false = silent (TraceeEnds.leaving_with kill s t) refl
 
-exec_speaks : (id : ℕ) (s : End) (t : Thread) → Speaks t → Speaks (TraceeEnds.broken_by_exec id s t)
+exec_speaks : (id : ℕ) (s : End) (t : Thread) → Speaks t → Speaks (TraceeEnds.begun_to_leave_by_exec id s t)
 exec_speaks id s t h = go (t.id == id)
   where
-    go : (b : Bool) → Speaks (if b then t else TraceeEnds.broken false (TraceeEnds.own_end s t.life) t)
+    go : (b : Bool) → Speaks (if b then t else TraceeEnds.begun_to_leave false (TraceeEnds.own_end s t.life) t)
     go true = h
     go false = broken_speaks false (TraceeEnds.own_end s t.life) t h
 
@@ -83,7 +83,7 @@ at-spoken id move w h d = go (Tables.thread_of w.table id) refl
     go None e = d
     go (Some t) e = h t (itself w.table.threads id t e)
 
-entering-spoken : (t : Thread) (s : Stop) (w : Work) → Tables.thread_of w.table t.id ≡ Some t → Spoken w → Spoken (Moves.entering s t w)
+entering-spoken : (t : Thread) (s : Stop) (w : Work) → Tables.thread_of w.table t.id ≡ Some t → Spoken w → Spoken (Moves.enter_if_allowed s t w)
 entering-spoken t s w e d = go (TraceeStops.may_enter t.life)
   where
     go : (b : Bool) → Spoken (if b then Moves.entered_now s t w else w)
@@ -94,7 +94,7 @@ holding-spoken : (t : Thread) (o : Option Instance) (w : Work) → Tables.thread
 holding-spoken t None w e d = d
 holding-spoken t (Some i) w e d = go (Lives.is_free t.life)
   where
-    go : (b : Bool) → Spoken (if b then Moves.entering (stop.Signal i false) t (Moves.pulled i w) else w)
+    go : (b : Bool) → Spoken (if b then Moves.enter_if_allowed (stop.Signal i false) t (Moves.pulled i w) else w)
     go true = entering-spoken t (stop.Signal i false) (Moves.pulled i w) e (as_spoken w (Moves.pulled i w) refl d)
     go false = d
 
@@ -122,31 +122,31 @@ spawned-spoken id mark t w d = go (Lives.is_free t.life)
 placed-spoken : (t : Thread) (w : Work) → Spoken w → Spoken (Moves.taking_place t w)
 placed-spoken t w d = go (Lives.is_execing t.life && not (t.id == t.group))
   where
-    one_place : (x : Thread) → Speaks x → Speaks (Moves.in_place t x)
+    one_place : (x : Thread) → Speaks x → Speaks (Moves.in_leaders_row t x)
     one_place x h = at_place (x.id == t.group && Lives.is_dead x.life)
       where
         at_place : (b : Bool) → Speaks (if b then Moves.renamed t.group t else x)
         at_place true = silent (Moves.renamed t.group t) refl
         at_place false = h
 
-    go : (b : Bool) → Spoken (if b then Moves.placed t w else w)
-    go true = record { each = each_map Speaks Speaks (Moves.in_place t) one_place (Moves.dropped t.id w.table.threads) (each_dropped Speaks t.id w.table.threads d.each) }
+    go : (b : Bool) → Spoken (if b then Moves.with_leaders_row t w else w)
+    go true = record { each = each_map Speaks Speaks (Moves.in_leaders_row t) one_place (Moves.dropped t.id w.table.threads) (each_dropped Speaks t.id w.table.threads d.each) }
     go false = d
 
 death-spoken : (g : ℕ) (s : End) (kill : Bool) (w : Work) → Spoken w → Spoken (Deaths.begin_death g s kill w)
 death-spoken g s kill w d =
     let now = Deaths.first_end (Tables.group_end w.table g) s in
-    map_spoken (Threads.throughout g (TraceeEnds.broken kill now)) (throughout_speaks g (TraceeEnds.broken kill now) (broken_speaks kill now)) w (Deaths.begin_death g s kill w) refl d
+    map_spoken (Threads.at_group g (TraceeEnds.begun_to_leave kill now)) (throughout_speaks g (TraceeEnds.begun_to_leave kill now) (broken_speaks kill now)) w (Deaths.begin_death g s kill w) refl d
 
 pub moves-spoken : Kept any any_of Spoken
 moves-spoken = record {
   alter = λ f h w d. map_spoken f (λ t. tame_speaks t (f t) (h t)) w (Moves.alter f w) refl d;
   resume = λ fate live t r w e d. put_spoken TraceeStops.restarted t (silent (TraceeStops.restarted t) refl) w (Requests.resume fate t w) refl e d;
   listen = λ t r w e d. put_spoken TraceeStops.listening t (silent (TraceeStops.listening t) refl) w (Requests.listen t w) refl e d;
-  break_others = λ g id x w d. map_spoken (Threads.throughout g (TraceeEnds.broken_by_exec id (ending.Exited 0))) (throughout_speaks g (TraceeEnds.broken_by_exec id (ending.Exited 0)) (exec_speaks id (ending.Exited 0))) w (Execs.break_others g id w) refl d;
+  break_others = λ g id x w d. map_spoken (Threads.at_group g (TraceeEnds.begun_to_leave_by_exec id (ending.Exited 0))) (throughout_speaks g (TraceeEnds.begun_to_leave_by_exec id (ending.Exited 0)) (exec_speaks id (ending.Exited 0))) w (Execs.break_others g id w) refl d;
   begin_death = death-spoken;
   kill_group = λ g w d. death-spoken g (ending.Killed 9) true (Moves.tell_killed g w) (as_spoken w (Moves.tell_killed g w) refl d);
-  enter = λ id s h w d. at-spoken id (Moves.entering s) w (λ t e. entering-spoken t s w e d) d;
+  enter = λ id s h w d. at-spoken id (Moves.enter_if_allowed s) w (λ t e. entering-spoken t s w e d) d;
   hold = λ id n w d. at-spoken id (λ t. Moves.on_instance (Moves.instance_in w.table.waiting n) (Moves.holding t)) w (λ t e. holding-spoken t _ w e d) d;
   report_death = λ id s w d. at-spoken id (Moves.report_dead s) w (λ t e. dead-spoken s t w e d) d;
   spawn = λ parent id mark w n d. at-spoken parent (Moves.spawned id mark) w (λ t e. spawned-spoken id mark t w d) d;

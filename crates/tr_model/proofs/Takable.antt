@@ -6,7 +6,7 @@ use Rattle.std.proofs.lemmas.Bool.{and_from, cases_lt, eq-eqb, eqb-false, eqb-tr
 use Rattle.std.proofs.lemmas.Bool.Decides.{nat_tests}
 use Rattle.tr_sigset.specs.Sets.{has}
 use Rattle.tr_sigset.specs.declared.sets.SigSet.{SigSet}
-use Rattle.tr_pending.specs.Waiting.{best_of, rather}
+use Rattle.tr_pending.specs.Waiting.{best_of, preferred_of}
 use Rattle.tr_pending.specs.declared.instance.Instance.{Instance}
 use Rattle.tr_tracee.specs.Threads.{is_ready_to_take}
 use Rattle.tr_tracee.specs.declared.thread.Thread.{Thread}
@@ -17,7 +17,7 @@ use Rattle.tr_model.specs.Journals.{IsSorted, taken_by}
 use Rattle.tr_model.specs.Moves.{instance_in}
 use Rattle.tr_model.specs.Preferred.{best_for, or_other}
 use Rattle.tr_model.specs.Tables.{Table, queue, same_target}
-use Rattle.tr_model.specs.Takes.{can_take, choices, choices_in, goes_before, is_empty, numbered, taken_from, unblocked}
+use Rattle.tr_model.specs.Takes.{can_take, choices, choices_in, goes_before, is_empty, taken_from, unblocked, with_number}
 use Rattle.tr_model.proofs.Among.{Among, among_filter, among_left, among_right, filter_among}
 use Rattle.tr_model.proofs.Sorted.{InOrder, Past, in_order_filter, sorted_filter, sorted_instances}
 
@@ -25,15 +25,15 @@ use Rattle.tr_model.proofs.Sorted.{InOrder, Past, in_order_filter, sorted_filter
 
 abbrev least : List Instance → Option Instance
 least [] = None
-least (i ∷ is) = Some (rather i (least is))
+least (i ∷ is) = Some (preferred_of i (least is))
 
 best_is_least : (mask : SigSet) (is : List Instance) → best_of mask is ≡ least (unblocked mask is)
 best_is_least mask [] = refl
 best_is_least mask (i ∷ is) = go (has mask i.sig) (best_is_least mask is)
   where
-    go : (b : Bool) → best_of mask is ≡ least (unblocked mask is) → (if b then best_of mask is else Some (rather i (best_of mask is))) ≡ least (cond (not b) (i ∷ unblocked mask is) (unblocked mask is))
+    go : (b : Bool) → best_of mask is ≡ least (unblocked mask is) → (if b then best_of mask is else Some (preferred_of i (best_of mask is))) ≡ least (cond (not b) (i ∷ unblocked mask is) (unblocked mask is))
     go true e = e
-    go false e = ap (λ o. Some (rather i o)) e
+    go false e = ap (λ o. Some (preferred_of i o)) e
 
 -- none of these goes before i
 abbrev NoneBefore : Instance → List Instance → Type 0
@@ -57,7 +57,7 @@ IsFirst i is = Among i is × NoneBefore i is
 least_is_first : (is : List Instance) (i : Instance) → InOrder is → least is ≡ Some i → IsFirst i is
 least_is_first [] i o e = cc
 least_is_first (x ∷ []) i o e = let same : x ≡ i = cc in subst (λ z. IsFirst z (x ∷ [])) same (inl refl, ((omega arith, λ _. omega arith), tt))
-least_is_first (x ∷ y ∷ ys) i o e = go (rather y (least ys)) (nat_le x.sig (rather y (least ys)).sig) refl (least_is_first (y ∷ ys) (rather y (least ys)) o.1 refl) e
+least_is_first (x ∷ y ∷ ys) i o e = go (preferred_of y (least ys)) (nat_le x.sig (preferred_of y (least ys)).sig) refl (least_is_first (y ∷ ys) (preferred_of y (least ys)) o.1 refl) e
   where
     go : (j : Instance) (b : Bool) → nat_le x.sig j.sig ≡ b → IsFirst j (y ∷ ys) → Some (if b then x else j) ≡ Some i → IsFirst i (x ∷ y ∷ ys)
     go j true h k f =
@@ -105,10 +105,10 @@ taking mask own shared o p c = go (best_of mask own) refl (best_of mask shared) 
         absurd (true≢false (sym c ∙ (ap (λ x. not (is_empty (x ++ choices_in (unblocked mask shared)))) (no_choice_left mask own e)
         ∙ ap (λ x. not (is_empty x)) (no_choice_left mask shared f))))
 
-numbered_there : (i : Instance) (is : List Instance) → Among i is → is_some (numbered i.n is) ≡ true
+numbered_there : (i : Instance) (is : List Instance) → Among i is → is_some (with_number i.n is) ≡ true
 numbered_there i [] m = absurd m
 numbered_there i (j ∷ is) (inl e) = rw (eq-eqb j.n i.n (ap (λ z. z.n) (sym e))) refl
-numbered_there i (j ∷ is) (inr m) = elim (j.n == i.n) as (λ b. is_some (if b then Some j else numbered i.n is) ≡ true) [ true ↦ refl | false ↦ numbered_there i is m ]
+numbered_there i (j ∷ is) (inr m) = elim (j.n == i.n) as (λ b. is_some (if b then Some j else with_number i.n is) ≡ true) [ true ↦ refl | false ↦ numbered_there i is m ]
 
 queue_in_order : (T : Table) (q : Target) → IsSorted T.waiting → InOrder (queue T q)
 queue_in_order T q s = let p = λ (w : Waiting). same_target q w.target in sorted_instances (filter p T.waiting) (sorted_filter p T.waiting s)
@@ -117,7 +117,7 @@ queue_in_order T q s = let p = λ (w : Waiting). same_target q w.target in sorte
 pub record Taken (T : Table) (t : Thread) : Type 0 where
   pub instance : Instance
   pub best : best_for T t ≡ Some instance
-  pub found : is_some (numbered instance.n (choices T t)) ≡ true
+  pub found : is_some (with_number instance.n (choices T t)) ≡ true
 
 pub taken_by_choice : (T : Table) (t : Thread) → IsSorted T.waiting → can_take T t ≡ true → Taken T t
 taken_by_choice T t s c = go (is_ready_to_take t) refl
@@ -243,22 +243,22 @@ same_number i j (x ∷ is) o (inl p) (inr k) e = absurd (let h = past_among x.n 
 same_number i j (x ∷ is) o (inr m) (inl q) e = absurd (let h = past_among x.n i is o.0 m in let s : j.n ≡ x.n = ap (λ z. z.n) q in omega (arith, h, s, e))
 same_number i j (x ∷ is) o (inr m) (inr k) e = same_number i j is o.1 m k e
 
-numbered_is : (i : Instance) (is : List Instance) → Among i is → ((j : Instance) → Among j is → j.n ≡ i.n → j ≡ i) → numbered i.n is ≡ Some i
+numbered_is : (i : Instance) (is : List Instance) → Among i is → ((j : Instance) → Among j is → j.n ≡ i.n → j ≡ i) → with_number i.n is ≡ Some i
 numbered_is i [] m u = absurd m
 numbered_is i (x ∷ xs) m u = go (x.n == i.n) refl m (λ k. numbered_is i xs k (λ j h. u j (inr h)))
   where
-    go : (b : Bool) → (x.n == i.n) ≡ b → (i ≡ x) ⊎ Among i xs → (Among i xs → numbered i.n xs ≡ Some i) → (if b then Some x else numbered i.n xs) ≡ Some i
+    go : (b : Bool) → (x.n == i.n) ≡ b → (i ≡ x) ⊎ Among i xs → (Among i xs → with_number i.n xs ≡ Some i) → (if b then Some x else with_number i.n xs) ≡ Some i
     go true e k r = ap Some (u x (inl refl) (eqb-true x.n i.n e))
     go false e (inl s) r = absurd (eqb-false x.n i.n e (ap (λ z. z.n) (sym s)))
     go false e (inr k) r = r k
 
-instance_numbered : (n : ℕ) (ws : List Waiting) → instance_in ws n ≡ numbered n (all_instances ws)
+instance_numbered : (n : ℕ) (ws : List Waiting) → instance_in ws n ≡ with_number n (all_instances ws)
 instance_numbered n [] = refl
 instance_numbered n (w ∷ ws) = ap (λ o. if w.instance.n == n then Some w.instance else o) (instance_numbered n ws)
 
 pub record Best (T : Table) (t : Thread) (i : Instance) : Type 0 where
   pub ready : is_ready_to_take t ≡ true
-  pub chosen : numbered i.n (choices T t) ≡ Some i
+  pub chosen : with_number i.n (choices T t) ≡ Some i
   pub waits : instance_in T.waiting i.n ≡ Some i
   pub taken : taken_by T (Some t) i.n ≡ Some (record { number = i.n; signal = i.sig; queue = taken_from (best_of t.mask (queue T (target.Thread t.id))) t })
 
@@ -282,7 +282,7 @@ best_is_chosen T t i s e = go (is_ready_to_take t) refl
         from (inr h) = chosen_waits T t.mask (target.Group t.group) j h
 
     Is : List Instance → Type 0
-    Is xs = numbered i.n xs ≡ Some i
+    Is xs = with_number i.n xs ≡ Some i
 
     only_one : (xs : List Instance) → ((j : Instance) → Among j xs → Among j (all_instances T.waiting)) → Among i xs → Is xs
     only_one xs from m = numbered_is i xs m (λ j k q. same_number j i (all_instances T.waiting) order (from j k) (from i m) q)

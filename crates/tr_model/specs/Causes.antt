@@ -24,18 +24,18 @@ use Rattle.tr_model.specs.Waits.{led_groups, ready, ready_for_starter}
 -- The first cause that holds
 
 -- one call has one error: the earliest cause that holds hides those after it
-abbrev pub first : List (Option Refusal) → Option Refusal
-first [] = None
-first (None ∷ rest) = first rest
-first (Some why ∷ rest) = Some why
+abbrev pub first_cause : List (Option Refusal) → Option Refusal
+first_cause [] = None
+first_cause (None ∷ rest) = first_cause rest
+first_cause (Some why ∷ rest) = Some why
 
 -- a condition that has to hold, else the event is refused so
 abbrev pub unless : Bool → Refusal → Option Refusal
 unless holds why = if holds then None else Some why
 
 -- a condition that must not hold, else the event is refused so
-abbrev pub where_is : Bool → Refusal → Option Refusal
-where_is holds why = if holds then Some why else None
+abbrev pub refused_if : Bool → Refusal → Option Refusal
+refused_if holds why = if holds then Some why else None
 
 -- a thread that has to be there
 abbrev pub thread_then : Option Thread → (Thread → List (Option Refusal)) → List (Option Refusal)
@@ -48,11 +48,11 @@ with_thread T id causes = thread_then (thread_of T id) causes
 
 -- a thread's own operation wants it running, with nothing to serve and nothing to take
 abbrev pub script : Table → Thread → List (Option Refusal)
-script T t = unless (is_free t.life && not t.pausing) NotRunning ∷ where_is (has_mark t || can_take T t) Busy ∷ []
+script T t = unless (is_free t.life && not t.pausing) NotRunning ∷ refused_if (has_mark t || can_take T t) Busy ∷ []
 
 -- a request on a ptrace-stop wants a stopped tracee of the actor
-abbrev pub stopped : ℕ → Thread → Option Refusal
-stopped a t = unless (is_tracee_of a t && is_in_stop t.life) Srch
+abbrev pub cause_unless_stopped : ℕ → Thread → Option Refusal
+cause_unless_stopped a t = unless (is_tracee_of a t && is_in_stop t.life) Srch
 
 -- PTRACE_ATTACH and PTRACE_SEIZE want an untraced live thread of a group that isn't dying
 abbrev pub traceable : Table → Thread → Option Refusal
@@ -60,11 +60,11 @@ traceable T t = unless (not (is_traced t) && is_live t.life && not (is_dying T t
 
 -- as many instances wait in all queues as the queue limit says: RLIMIT_SIGPENDING
 abbrev pub queue_full : Table → ℕ → Option Refusal
-queue_full T s = where_is (is_real_time s && nat_le T.limit (length T.waiting)) Again
+queue_full T s = refused_if (is_real_time s && nat_le T.limit (length T.waiting)) Again
 
 -- EINVAL for a number above 64; 0 passes, as it only asks whether the target is there
 abbrev pub no_signal : ℕ → Option Refusal
-no_signal s = where_is (nat_lt 64 s) Inval
+no_signal s = refused_if (nat_lt 64 s) Inval
 
 -- the thread exists and is of this group
 abbrev pub is_in : ℕ → Option Thread → Bool
@@ -89,14 +89,14 @@ causes T a (event.Kill g s) = no_signal s ∷ unless (is_some (group_of T g)) Sr
 causes T a (event.Tgkill g id s) = no_signal s ∷ unless (is_in g (thread_of T id)) Srch ∷ queue_full T s ∷ []
 causes T a (event.Sigqueue g s v) = no_signal s ∷ unless (is_some (group_of T g)) Srch ∷ queue_full T s ∷ []
 causes T a (event.Mask id set) = with_thread T id (script T)
-causes T a (event.SetAction id s how) = with_thread T id (λ t. script T t ++ where_is (s == 0 || s == 9 || s == 19 || nat_lt 64 s) Inval ∷ [])
+causes T a (event.SetAction id s how) = with_thread T id (λ t. script T t ++ refused_if (s == 0 || s == 9 || s == 19 || nat_lt 64 s) Inval ∷ [])
 causes T a (event.Pause id) = with_thread T id (script T)
-causes T a (event.Take id) = with_thread T id (λ t. unless (is_free t.life) NotRunning ∷ where_is (has_mark t) Busy ∷ [])
+causes T a (event.Take id) = with_thread T id (λ t. unless (is_free t.life) NotRunning ∷ refused_if (has_mark t) Busy ∷ [])
 causes T a (event.TakeAny g) = unless (is_some (group_of T g)) Srch ∷ []
 causes T a (event.Halt id) = with_thread T id (λ t. unless (t.stop_mark && serves_marks t.life) NotDue ∷ [])
 causes T a (event.Trap id) = with_thread T id (λ t. unless ((t.trap_mark || t.note_mark) && serves_marks t.life) NotDue ∷ [])
 causes T a (event.Die id) = with_thread T id (λ t. unless (is_leaving t.life) NotDue ∷ [])
-causes T a (event.CloneThread id) = with_thread T id (λ t. script T t ++ where_is (at_limit T t) Again ∷ [])
+causes T a (event.CloneThread id) = with_thread T id (λ t. script T t ++ refused_if (at_limit T t) Again ∷ [])
 causes T a (event.Exec id) = with_thread T id (script T)
 causes T a (event.Finish id) = with_thread T id (λ t. unless (is_execing t.life && others_dead T t) NotDue ∷ [])
 causes T a (event.Exit id code) = with_thread T id (script T)
@@ -104,19 +104,19 @@ causes T a (event.ExitGroup id code) = with_thread T id (script T)
 causes T a (event.Attach id) = with_thread T id (λ t. traceable T t ∷ [])
 causes T a (event.Seize id o) = with_thread T id (λ t. traceable T t ∷ [])
 causes T a (event.Interrupt id) = with_thread T id (λ t. unless (is_tracee_of a t && is_live t.life) Srch ∷ unless (seized t.trace) Io ∷ [])
-causes T a (event.Cont id s) = with_thread T id (λ t. stopped a t ∷ where_is (nat_lt 64 s) Io ∷ [])
-causes T a (event.Listen id) = with_thread T id (λ t. stopped a t ∷ unless (seized t.trace && is_in_event_stop t.life) Io ∷ [])
-causes T a (event.Detach id s) = with_thread T id (λ t. stopped a t ∷ where_is (nat_lt 64 s) Io ∷ [])
-causes T a (event.SetOptions id o) = with_thread T id (λ t. stopped a t ∷ [])
-causes T a (event.EventMessage id) = with_thread T id (λ t. stopped a t ∷ unless (is_some (message t.life)) Unmodelled ∷ [])
-causes T a (event.SignalInfo id) = with_thread T id (λ t. stopped a t ∷ no_siginfo t.life ∷ [])
+causes T a (event.Cont id s) = with_thread T id (λ t. cause_unless_stopped a t ∷ refused_if (nat_lt 64 s) Io ∷ [])
+causes T a (event.Listen id) = with_thread T id (λ t. cause_unless_stopped a t ∷ unless (seized t.trace && is_in_event_stop t.life) Io ∷ [])
+causes T a (event.Detach id s) = with_thread T id (λ t. cause_unless_stopped a t ∷ refused_if (nat_lt 64 s) Io ∷ [])
+causes T a (event.SetOptions id o) = with_thread T id (λ t. cause_unless_stopped a t ∷ [])
+causes T a (event.EventMessage id) = with_thread T id (λ t. cause_unless_stopped a t ∷ unless (is_some (message t.life)) Unmodelled ∷ [])
+causes T a (event.SignalInfo id) = with_thread T id (λ t. cause_unless_stopped a t ∷ no_siginfo t.life ∷ [])
 causes T a event.TracerExit = []
 causes T a (event.Wait which) = unless (list_any (λ t. asks_for which t.id) (tracees T a)) Child ∷ []
 causes T a (event.StarterWait which flags) = unless (a == 1 && not (is_empty (led_groups T which))) Child ∷ []
 
 -- why this actor's event is refused, or None where it isn't
 abbrev pub cause_of : Table → ℕ → Event → Option Refusal
-cause_of T a e = first (causes T a e)
+cause_of T a e = first_cause (causes T a e)
 
 -- Answers without an entry
 

@@ -2,8 +2,8 @@
 use Rattle.std.specs.Prelude.{ℕ, Bool, true, Option, Some, None}
 use Rattle.tr_tracee.specs.declared.life.End.{End}
 use Rattle.tr_tracee.specs.declared.life.End.TheVariants.{Killed}
-use Rattle.tr_tracee.specs.Ends.{broken}
-use Rattle.tr_tracee.specs.Threads.{throughout}
+use Rattle.tr_tracee.specs.Ends.{begun_to_leave}
+use Rattle.tr_tracee.specs.Threads.{at_group}
 use Rattle.tr_group.specs.declared.stops.GroupStop.TheVariants.{No}
 use Rattle.tr_model.specs.declared.fates.Fate.TheVariants.{Flushed}
 use Rattle.tr_model.specs.declared.rows.Group.{Group}
@@ -22,7 +22,7 @@ dying_with e x = record x { end = Some (first_end x.end e); group_stop = No; not
 -- each thread that isn't dead leaves with the group's end, and what it held is flushed
 abbrev pub begin_death : ℕ → End → Bool → Work → Work
 begin_death g e kill w =
-    tell_dying g (become Flushed (throughout g (broken kill (first_end (group_end w.table g) e))) (regroup (only_group g (dying_with e)) w))
+    tell_dying g (become Flushed (at_group g (begun_to_leave kill (first_end (group_end w.table g) e))) (regroup (only_group g (dying_with e)) w))
 
 -- a delivered KILL
 abbrev pub kill_group : ℕ → Work → Work

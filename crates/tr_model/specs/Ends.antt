@@ -10,7 +10,7 @@ use Rattle.tr_tracee.specs.declared.thread.Report.{Report}
 use Rattle.tr_tracee.specs.declared.thread.Thread.{Thread}
 use Rattle.tr_tracee.specs.Ends.{dead, leaving, released, unmarked}
 use Rattle.tr_tracee.specs.Lives.{status_of_end}
-use Rattle.tr_tracee.specs.Threads.{is_leader, is_traced, only, options_of}
+use Rattle.tr_tracee.specs.Threads.{at_thread, is_leader, is_traced, options_of}
 use Rattle.tr_model.specs.declared.fates.Fate.TheVariants.{Flushed}
 use Rattle.tr_model.specs.declared.rows.Target.TheVariants as target
 use Rattle.tr_model.specs.Deaths.{begin_death, first_end}
@@ -30,8 +30,8 @@ word_of_end e = word (status_of_end e)
 -- with option exit the thread stops before it leaves
 abbrev pub exit : Thread → ℕ → Work → Work
 exit t code w =
-    let x = alter (only t.id unmarked) w in
-    if (options_of t.trace).exit then enter t.id (stop.Exit (word_of_end (exited code))) x else alter (only t.id (leaving (exited code))) x
+    let x = alter (at_thread t.id unmarked) w in
+    if (options_of t.trace).exit then enter t.id (stop.Exit (word_of_end (exited code))) x else alter (at_thread t.id (leaving (exited code))) x
 
 -- the group begins to die with this code, not as by a KILL: a tracee with option exit still has its exit stop
 abbrev pub exit_group : ℕ → Thread → Work → Work
@@ -40,8 +40,8 @@ exit_group code t w = begin_death t.group (exited code) false w
 -- Deaths
 
 -- the end that a death report tells: the group's where it is dying, else the thread's own
-abbrev pub told_end : Table → Thread → End → End
-told_end T t e = first_end (group_end T t.group) e
+abbrev pub reported_end : Table → Thread → End → End
+reported_end T t e = first_end (group_end T t.group) e
 
 -- how a dead thread itself ended; an exit with 0 only fills in for other lives
 abbrev pub end_of_dead : Life → End
@@ -50,7 +50,7 @@ end_of_dead _ = Exited 0
 
 -- a dead leader's report, for its tracer, else for the starter
 abbrev pub report_leader : Thread → Work → Work
-report_leader t w = report_death t.id (told_end w.table t (end_of_dead t.life)) w
+report_leader t w = report_death t.id (reported_end w.table t (end_of_dead t.life)) w
 
 -- with a group's last thread the shared queue goes, and the leader's death is reported
 abbrev pub last_death : ℕ → Work → Work
@@ -60,22 +60,22 @@ last_death g w = at g report_leader (end_waiting Flushed (λ q. same_target (tar
 abbrev pub bury : Thread → End → Work → Work
 bury t e w =
     if is_leader t then w
-    else if is_traced t then report_death t.id (told_end w.table t e) w
+    else if is_traced t then report_death t.id (reported_end w.table t e) w
     else remove_dead (λ x. x.id == t.id) w
 
 -- the thread is dead, and what was pending in its own queue is flushed
-abbrev pub dead_now : Thread → Work → Work
-dead_now t w = end_waiting Flushed (λ q. same_target (target.Thread t.id) q.target) (alter (only t.id dead) w)
+abbrev pub die_and_flush : Thread → Work → Work
+die_and_flush t w = end_waiting Flushed (λ q. same_target (target.Thread t.id) q.target) (alter (at_thread t.id dead) w)
 
 -- a group's end waits for all its threads to be dead, not for their tracers to have waited for them
-abbrev pub last : ℕ → Work → Work
-last g w = when (all_dead w.table g) (last_death g) w
+abbrev pub report_if_last : ℕ → Work → Work
+report_if_last g w = when (all_dead w.table g) (last_death g) w
 
 -- a leaving thread that isn't told is in its exit stop first
 abbrev pub die : Thread → Life → Work → Work
 die t (life.Leaving e told) w =
     if told
-    then last t.group (bury t e (dead_now t w))
+    then report_if_last t.group (bury t e (die_and_flush t w))
     else enter t.id (stop.Exit (word_of_end e)) w
 die t _ w = w
 
@@ -85,5 +85,5 @@ remove_thread t w = drop_empty t.group (remove_dead (λ x. x.id == t.id) w)
 
 -- a dead leader without its tracer: its report, if it has one, passes to the starter
 abbrev pub pass_on : Thread → Option Report → Work → Work
-pass_on t None w = alter (only t.id released) w
-pass_on t (Some r) w = report_leader t (alter (only t.id released) w)
+pass_on t None w = alter (at_thread t.id released) w
+pass_on t (Some r) w = report_leader t (alter (at_thread t.id released) w)

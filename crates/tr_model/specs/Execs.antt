@@ -3,8 +3,8 @@ use Rattle.std.specs.Prelude.{ℕ, pos, not, ◌&&◌, if◌then◌else◌, map,
 use Rattle.tr_tracee.specs.declared.life.End.TheVariants.{Exited}
 use Rattle.tr_tracee.specs.declared.life.Stop.TheVariants as stop
 use Rattle.tr_tracee.specs.declared.thread.Thread.{Thread}
-use Rattle.tr_tracee.specs.Ends.{broken_by_exec, execed, execing}
-use Rattle.tr_tracee.specs.Threads.{is_leader, is_traced, only, options_of, seized, throughout}
+use Rattle.tr_tracee.specs.Ends.{begun_to_leave_by_exec, execed, execing}
+use Rattle.tr_tracee.specs.Threads.{at_group, at_thread, is_leader, is_traced, options_of, seized}
 use Rattle.tr_group.specs.Actions.{reset}
 use Rattle.tr_model.specs.declared.fates.Fate.TheVariants.{Flushed}
 use Rattle.tr_model.specs.declared.rows.Group.{Group}
@@ -41,14 +41,14 @@ new_program former t w =
 
 -- the other threads begin to leave
 abbrev pub break_others : ℕ → ℕ → Work → Work
-break_others g id w = become Flushed (throughout g (broken_by_exec id (Exited 0))) w
+break_others g id w = become Flushed (at_group g (begun_to_leave_by_exec id (Exited 0))) w
 
 -- a leader without other threads has its new program at once; any other thread waits for their deaths
 abbrev pub exec : Thread → Work → Work
 exec t w =
     if is_leader t && others_dead w.table t then new_program t.id t w
-    else alter (only t.id execing) (break_others t.group t.id w)
+    else alter (at_thread t.id execing) (break_others t.group t.id w)
 
 -- then it is the leader
 abbrev pub finish : Thread → Work → Work
-finish t w = at t.group (new_program t.id) (alter (only t.group execed) (take_place t.id w))
+finish t w = at t.group (new_program t.id) (alter (at_thread t.group execed) (take_place t.id w))

@@ -2,7 +2,7 @@
 use Rattle.std.specs.Prelude.{ℕ, not, ◌&&◌, Option, Some, None, map, is_some}
 use Rattle.tr_wait.specs.declared.status.Status.TheVariants as status
 use Rattle.tr_tracee.specs.Marks.{continued, marked, noted}
-use Rattle.tr_tracee.specs.Threads.{throughout}
+use Rattle.tr_tracee.specs.Threads.{at_group}
 use Rattle.tr_group.specs.declared.stops.GroupStop.TheVariants.{No}
 use Rattle.tr_group.specs.GroupStops.{begun, completed, is_complete, is_stopping}
 use Rattle.tr_model.specs.declared.rows.Group.{Group}
@@ -17,7 +17,7 @@ beginning s x = record x { group_stop = begun s x.group_stop }
 
 -- each live thread that takes no part yet gets the stop mark
 abbrev pub initiate : ℕ → ℕ → Work → Work
-initiate g s w = alter (throughout g marked) (regroup (only_group g (beginning s)) w)
+initiate g s w = alter (at_group g marked) (regroup (only_group g (beginning s)) w)
 
 -- Continuing
 
@@ -29,17 +29,17 @@ ended_stop x = record x { group_stop = No; note = None }
 abbrev pub end_stop : ℕ → Work → Work
 end_stop g w =
     when (is_complete (stop_of (group_of w.table g)) && not (has_traced w.table g)) (note g status.Continued)
-    (alter (throughout g continued) (regroup (only_group g ended_stop) w))
+    (alter (at_group g continued) (regroup (only_group g ended_stop) w))
 
 -- SIGCONT: the note mark for each live seized thread, and the end of a group-stop in effect
 abbrev pub continue_all : ℕ → Work → Work
-continue_all g w = when (is_some (stop_in_effect w.table g)) (end_stop g) (alter (throughout g noted) w)
+continue_all g w = when (is_some (stop_in_effect w.table g)) (end_stop g) (alter (at_group g noted) w)
 
 -- Completing
 
 -- the group-stop under way is complete, by the signal that began it
-abbrev pub full : Group → Group
-full x = record x { group_stop = completed x.group_stop }
+abbrev pub completed_group : Group → Group
+completed_group x = record x { group_stop = completed x.group_stop }
 
 -- where nobody traces the group, the starter may learn that it stopped
 abbrev pub note_stop : ℕ → Option ℕ → Work → Work
@@ -47,13 +47,13 @@ note_stop g None w = w
 note_stop g (Some s) w = when (not (has_traced w.table g)) (note g (status.Stopped s)) w
 
 -- the group has stopped, and the starter may learn by which signal
-abbrev pub fill_stop : ℕ → Work → Work
-fill_stop g w = note_stop g (stop_in_effect w.table g) (regroup (only_group g full) w)
+abbrev pub complete_stop : ℕ → Work → Work
+complete_stop g w = note_stop g (stop_in_effect w.table g) (regroup (only_group g completed_group) w)
 
 -- a group-stop under way is complete once no thread has a stop mark left
-abbrev pub settle_group : ℕ → Work → Work
-settle_group g w = when (is_stopping (stop_of (group_of w.table g)) && not (has_stop_mark w.table g)) (fill_stop g) w
+abbrev pub complete_group_stop : ℕ → Work → Work
+complete_group_stop g w = when (is_stopping (stop_of (group_of w.table g)) && not (has_stop_mark w.table g)) (complete_stop g) w
 
 -- the last change of each step, in the order of the groups
-abbrev pub settle : Work → Work
-settle w = each (map (λ x. x.tgid) w.table.groups) settle_group w
+abbrev pub complete_group_stops : Work → Work
+complete_group_stops w = each (map (λ x. x.tgid) w.table.groups) complete_group_stop w

@@ -21,7 +21,7 @@ use Rattle.tr_model.specs.declared.rows.Target.TheVariants as target
 use Rattle.tr_model.specs.declared.rows.Waiting.{Waiting}
 use Rattle.tr_model.specs.Steps.{Step, number, work_of}
 use Rattle.tr_model.specs.Tables.{Table, thread_of}
-use Rattle.tr_model.specs.Takes.{choices_from, numbered}
+use Rattle.tr_model.specs.Takes.{choices_from, with_number}
 use Rattle.tr_model.specs.declared.raises.Raise.{Raise}
 
 -- Lists
@@ -242,8 +242,8 @@ taken_if q (Some i) other = Some (record { number = i.n; signal = i.sig; queue =
 abbrev pub taken_by : Table → Option Thread → ℕ → Option Taken
 taken_by T None n = None
 taken_by T (Some t) n =
-    taken_if (target.Thread t.id) (numbered n (choices_from T t (target.Thread t.id)))
-    (taken_if (target.Group t.group) (numbered n (choices_from T t (target.Group t.group))) None)
+    taken_if (target.Thread t.id) (with_number n (choices_from T t (target.Thread t.id)))
+    (taken_if (target.Group t.group) (with_number n (choices_from T t (target.Group t.group))) None)
 
 -- the signal that a thread takes by the choice of a Take or TakeAny; other events take none
 abbrev pub taken_of : Table → Event → Choice → Option Taken

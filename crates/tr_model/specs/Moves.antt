@@ -73,14 +73,14 @@ dropped id [] = []
 dropped id (t ∷ ts) = if t.id == id then ts else t ∷ dropped id ts
 
 -- a change of life ends the instance that was held and is held no more
-abbrev pub endings : Fate → Option Instance → Option Instance → List Ending
-endings fate None after = []
-endings fate (Some i) None = record { number = i.n; fate = fate } ∷ []
-endings fate (Some i) (Some j) = []
+abbrev pub ended_hold : Fate → Option Instance → Option Instance → List Ending
+ended_hold fate None after = []
+ended_hold fate (Some i) None = record { number = i.n; fate = fate } ∷ []
+ended_hold fate (Some i) (Some j) = []
 
 -- what a signal-delivery-stop held ends with this fate, where f takes the thread out of that stop
-abbrev pub ends : Fate → (Thread → Thread) → Thread → List Ending
-ends fate f t = endings fate (held t.life) (held (f t).life)
+abbrev pub ended_by_change : Fate → (Thread → Thread) → Thread → List Ending
+ended_by_change fate f t = ended_hold fate (held t.life) (held (f t).life)
 
 -- each thread becomes what f makes of it, where that ends no instance
 abbrev pub alter : (Thread → Thread) → Work → Work
@@ -91,20 +91,20 @@ abbrev pub become : Fate → (Thread → Thread) → Work → Work
 become fate f w =
     record w {
       table = record w.table { threads = map f w.table.threads };
-      ended = w.ended ++ flat_map (ends fate f) w.table.threads;
+      ended = w.ended ++ flat_map (ended_by_change fate f) w.table.threads;
     }
 
 -- the same for one thread of the table
-abbrev pub changing : Fate → (Thread → Thread) → Thread → Work → Work
-changing fate f t w =
+abbrev pub change_ending : Fate → (Thread → Thread) → Thread → Work → Work
+change_ending fate f t w =
     record w {
       table = record w.table { threads = changed t.id f w.table.threads };
-      ended = w.ended ++ ends fate f t;
+      ended = w.ended ++ ended_by_change fate f t;
     }
 
 -- the next report, on this thread, for its tracer or the starter
-abbrev pub raising : (Thread → Thread) → Thread → Status → Work → Work
-raising f t s w =
+abbrev pub raise_with : (Thread → Thread) → Thread → Status → Work → Work
+raise_with f t s w =
     record w {
       table = record w.table { threads = changed t.id f w.table.threads; raised = w.table.raised + 1 };
       raises = w.raises ++ record { number = w.table.raised + 1; whom = tracer_of t.trace; id = t.id; status = s } ∷ [];
@@ -112,19 +112,19 @@ raising f t s w =
 
 -- the next report, on a thread that is otherwise left as it is
 abbrev pub raise : Thread → Status → Work → Work
-raise t s w = raising (reported (w.table.raised + 1) s) t s w
+raise t s w = raise_with (reported (w.table.raised + 1) s) t s w
 
 -- the thread is in the ptrace-stop, with the wait status of that stop as its next report
 abbrev pub entered_now : Stop → Thread → Work → Work
-entered_now s t w = raising (entered_as (w.table.raised + 1) s) t (status_of_stop s) w
+entered_now s t w = raise_with (entered_as (w.table.raised + 1) s) t (status_of_stop s) w
 
 -- a thread that is in a ptrace-stop, told to leave, dead or in execve(2) enters none
-abbrev pub entering : Stop → Thread → Work → Work
-entering s t w = if may_enter t.life then entered_now s t w else w
+abbrev pub enter_if_allowed : Stop → Thread → Work → Work
+enter_if_allowed s t w = if may_enter t.life then entered_now s t w else w
 
 -- a ptrace-stop, other than a signal-delivery-stop
 abbrev pub enter : ℕ → Stop → Work → Work
-enter id s w = at id (entering s) w
+enter id s w = at id (enter_if_allowed s) w
 
 -- only a dead thread has a death report; the end that it tells may be the group's
 abbrev pub report_dead : End → Thread → Work → Work
@@ -151,36 +151,36 @@ abbrev pub remove_dead : (Thread → Bool) → Work → Work
 remove_dead p w = record w { table = record w.table { threads = filter (λ t. not (p t && is_dead t.life)) w.table.threads } }
 
 -- a thread's own queue goes with it to its new id; a shared queue stays that of its group
-abbrev pub aimed : ℕ → ℕ → Target → Target
-aimed from to (target.Thread id) = if id == from then target.Thread to else target.Thread id
-aimed from to (target.Group g) = target.Group g
+abbrev pub retarget : ℕ → ℕ → Target → Target
+retarget from to (target.Thread id) = if id == from then target.Thread to else target.Thread id
+retarget from to (target.Group g) = target.Group g
 
 -- an instance that waits for the former id waits for the new one, and keeps its place in the order
-abbrev pub reaimed : ℕ → ℕ → Waiting → Waiting
-reaimed from to q = record q { target = aimed from to q.target }
+abbrev pub retargeted : ℕ → ℕ → Waiting → Waiting
+retargeted from to q = record q { target = retarget from to q.target }
 
 -- the thread has another id, and a report under its former one is withdrawn
 abbrev pub renamed : ℕ → Thread → Thread
 renamed id t = record t { id = id; report = None }
 
 -- the row of the dead leader becomes that of the thread, with the leader's id; every other row stays
-abbrev pub in_place : Thread → Thread → Thread
-in_place t x = if x.id == t.group && is_dead x.life then renamed t.group t else x
+abbrev pub in_leaders_row : Thread → Thread → Thread
+in_leaders_row t x = if x.id == t.group && is_dead x.life then renamed t.group t else x
 
 -- the thread leaves its own row for the dead leader's, what waits for it goes along, and the log has the id that it took
-abbrev pub placed : Thread → Work → Work
-placed t w =
+abbrev pub with_leaders_row : Thread → Work → Work
+with_leaders_row t w =
     record w {
       table = record w.table {
-        threads = map (in_place t) (dropped t.id w.table.threads);
-        waiting = map (reaimed t.id t.group) w.table.waiting;
+        threads = map (in_leaders_row t) (dropped t.id w.table.threads);
+        waiting = map (retargeted t.id t.group) w.table.waiting;
       };
       renamed = w.renamed ++ t.group ∷ [];
     }
 
 -- execve(2) by another thread than the leader; an execing leader has its place already
 abbrev pub taking_place : Thread → Work → Work
-taking_place t w = if is_execing t.life && not (is_leader t) then placed t w else w
+taking_place t w = if is_execing t.life && not (is_leader t) then with_leaders_row t w else w
 
 -- an execing thread takes the dead leader's place and id, and its queue goes with it
 abbrev pub take_place : ℕ → Work → Work
@@ -281,7 +281,7 @@ pulled i w = record w { table = record w.table { waiting = without_instance i.n 
 
 -- the stop of a free thread takes the instance out of its queue; no SIGCONT came during that stop yet
 abbrev pub holding : Thread → Instance → Work → Work
-holding t i w = if is_free t.life then entering (stop.Signal i false) t (pulled i w) else w
+holding t i w = if is_free t.life then enter_if_allowed (stop.Signal i false) t (pulled i w) else w
 
 -- a free thread enters a signal-delivery-stop, which holds a waiting instance
 abbrev pub hold : ℕ → ℕ → Work → Work

@@ -6,7 +6,7 @@ use Rattle.tr_tracee.specs.declared.thread.Options.{Options}
 use Rattle.tr_tracee.specs.declared.thread.Thread.{Thread}
 use Rattle.tr_tracee.specs.Lives.{cont_came, held, is_dead}
 use Rattle.tr_tracee.specs.Stops.{listening, restarted, traced_by, untraced}
-use Rattle.tr_tracee.specs.Threads.{is_leader, is_tracee_of, no_options, only, options_of, tracer_of}
+use Rattle.tr_tracee.specs.Threads.{at_thread, is_leader, is_tracee_of, no_options, options_of, tracer_of}
 use Rattle.tr_model.specs.declared.fates.Fate.{Fate}
 use Rattle.tr_model.specs.declared.fates.Fate.TheVariants.{Delivered, Suppressed, Flushed}
 use Rattle.tr_model.specs.declared.rows.Target.TheVariants as target
@@ -16,13 +16,13 @@ use Rattle.tr_model.specs.Sends.{info, put, send}
 use Rattle.tr_model.specs.Stops.{show_stop}
 use Rattle.tr_model.specs.Tables.{Table, stop_in_effect}
 use Rattle.tr_model.specs.Takes.{act_on}
-use Rattle.tr_model.specs.Moves.{Work, accept_as, alter, at, changing, each, when}
+use Rattle.tr_model.specs.Moves.{accept_as, alter, at, change_ending, each, when, Work}
 
 -- Tracing
 
 -- the actor is the tracer, attached or seized, with these options; a thread that has a tracer keeps it
 abbrev pub trace : ℕ → Bool → Options → Thread → Work → Work
-trace a is_seized o t w = alter (only t.id (traced_by (record { tracer = a; seized = is_seized; options = o }))) w
+trace a is_seized o t w = alter (at_thread t.id (traced_by (record { tracer = a; seized = is_seized; options = o }))) w
 
 -- PTRACE_ATTACH sends SIGSTOP, with si_code SI_KERNEL
 abbrev pub attach : ℕ → Thread → Work → Work
@@ -36,7 +36,7 @@ seize a o t w = show_stop t (trace a true o t w)
 
 -- out of its stop; what it held ends with this fate
 abbrev pub resume : Fate → Thread → Work → Work
-resume fate t w = changing fate restarted t w
+resume fate t w = change_ending fate restarted t w
 
 -- the tracer as the sender that an injected signal tells, 0 where there is none
 abbrev pub tracer_number : Option ℕ → ℕ
@@ -64,13 +64,13 @@ restart s t w = restart_held t s (held t.life) w
 
 -- PTRACE_LISTEN
 abbrev pub listen : Thread → Work → Work
-listen t w = changing Flushed listening t w
+listen t w = change_ending Flushed listening t w
 
 -- The end of tracing
 
 -- a thread in no ptrace-stop is untraced, and where a group-stop is in effect, stopped if it ran or listened
 abbrev pub untrace : Thread → Work → Work
-untrace t w = alter (only t.id (untraced (is_some (stop_in_effect w.table t.group)))) w
+untrace t w = alter (at_thread t.id (untraced (is_some (stop_in_effect w.table t.group)))) w
 
 -- PTRACE_DETACH: as a restart, and then nobody traces it
 abbrev pub detach : ℕ → Thread → Work → Work

@@ -8,7 +8,7 @@ use Rattle.tr_pending.specs.Waiting.{merges}
 use Rattle.tr_tracee.specs.declared.thread.Thread.{Thread}
 use Rattle.tr_tracee.specs.Lives.{is_live}
 use Rattle.tr_tracee.specs.Marks.{cont_noted}
-use Rattle.tr_tracee.specs.Threads.{is_traced, throughout}
+use Rattle.tr_tracee.specs.Threads.{at_group, is_traced}
 use Rattle.tr_group.specs.declared.stops.Action.{Action}
 use Rattle.tr_group.specs.Actions.{ignoring}
 use Rattle.tr_model.specs.declared.fates.Fate.TheVariants.{Merged, Delivered, Flushed}
@@ -55,7 +55,7 @@ is_reachable T (target.Group g) = has_live T g && not (is_dying T g)
 
 -- stop signals are flushed, each signal-delivery-stop notes that SIGCONT came, and the group continues
 abbrev pub continue_by_signal : ℕ → Work → Work
-continue_by_signal g w = continue_all g (alter (throughout g cont_noted) (flush_in g is_stop w))
+continue_by_signal g w = continue_all g (alter (at_group g cont_noted) (flush_in g is_stop w))
 
 -- even if ignored or merged itself, a stop signal flushes SIGCONT, and SIGCONT stop signals, in all the group's queues
 abbrev pub before_send : ℕ → ℕ → Work → Work

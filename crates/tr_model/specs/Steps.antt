@@ -6,7 +6,7 @@ use Rattle.tr_tracee.specs.declared.thread.Report.{Report}
 use Rattle.tr_tracee.specs.declared.thread.Thread.{Thread}
 use Rattle.tr_tracee.specs.Marks.{masked, paused}
 use Rattle.tr_tracee.specs.Stops.{interrupted, set_options}
-use Rattle.tr_tracee.specs.Threads.{only}
+use Rattle.tr_tracee.specs.Threads.{at_thread}
 use Rattle.tr_model.specs.declared.events.Choice.{Choice}
 use Rattle.tr_model.specs.declared.events.Entry.{Entry}
 use Rattle.tr_model.specs.declared.events.Event.{Event}
@@ -21,14 +21,14 @@ use Rattle.tr_model.specs.declared.rows.Target.TheVariants as target
 use Rattle.tr_model.specs.Causes.{cause_of, is_in, quiet_of}
 use Rattle.tr_model.specs.Ends
 use Rattle.tr_model.specs.Execs
-use Rattle.tr_model.specs.GroupStops.{settle}
+use Rattle.tr_model.specs.GroupStops.{complete_group_stops}
 use Rattle.tr_model.specs.Requests
 use Rattle.tr_model.specs.Sends
 use Rattle.tr_model.specs.Sends.{info}
 use Rattle.tr_model.specs.Stops
 use Rattle.tr_model.specs.Tables.{Table, group_of, thread_of}
 use Rattle.tr_model.specs.Takes
-use Rattle.tr_model.specs.Takes.{choices, numbered}
+use Rattle.tr_model.specs.Takes.{choices, with_number}
 use Rattle.tr_model.specs.Waits
 use Rattle.tr_model.specs.Waits.{ready_death, ready_note, ready_thread}
 use Rattle.tr_model.specs.Moves.{Work, alter, at, begin, instance_in, on_thread}
@@ -58,7 +58,7 @@ gives_id id = record { thread = None; instance = None; report = None; new_id = S
 -- the thread is in the table and can take the instance with this number
 abbrev pub takes : Table → Option Thread → ℕ → Bool
 takes T None n = false
-takes T (Some t) n = is_some (numbered n (choices T t))
+takes T (Some t) n = is_some (with_number n (choices T t))
 
 -- an id from 2 to 4,194,303 that is no thread's and no group's
 abbrev pub is_new : Table → ℕ → Bool
@@ -81,39 +81,39 @@ number None = 0
 number (Some n) = n
 
 -- si_code: SI_USER by kill(2), SI_TKILL by tgkill(2), SI_QUEUE by sigqueue(3)
-abbrev pub does : ℕ → Event → Choice → Work → Work
-does a (event.Kill g s) c w = Sends.send s (info (pos 0) a (pos 0)) (target.Group g) w
-does a (event.Tgkill g id s) c w = Sends.send s (info (negsuc 5) a (pos 0)) (target.Thread id) w
-does a (event.Sigqueue g s v) c w = Sends.send s (info (negsuc 0) a v) (target.Group g) w
-does a (event.Mask id set) c w = alter (only id (masked set)) w
-does a (event.SetAction id s how) c w = at id (Sends.set_action s how) w
-does a (event.Pause id) c w = alter (only id (paused true)) w
-does a (event.Take id) c w = at id (Takes.take_numbered (number c.instance)) w
-does a (event.TakeAny g) c w = at (number c.thread) (Takes.take_numbered (number c.instance)) w
-does a (event.Halt id) c w = at id Stops.halt w
-does a (event.Trap id) c w = at id Stops.trap w
-does a (event.Die id) c w = at id (λ t. Ends.die t t.life) w
-does a (event.CloneThread id) c w = at id (λ t. Execs.clone t (number c.new_id)) w
-does a (event.Exec id) c w = at id Execs.exec w
-does a (event.Finish id) c w = at id Execs.finish w
-does a (event.Exit id code) c w = at id (λ t. Ends.exit t code) w
-does a (event.ExitGroup id code) c w = at id (Ends.exit_group code) w
-does a (event.Attach id) c w = at id (Requests.attach a) w
-does a (event.Seize id o) c w = at id (Requests.seize a o) w
-does a (event.Interrupt id) c w = alter (only id interrupted) w
-does a (event.Cont id s) c w = at id (Requests.restart s) w
-does a (event.Listen id) c w = at id Requests.listen w
-does a (event.Detach id s) c w = at id (Requests.detach s) w
-does a (event.SetOptions id o) c w = alter (only id (set_options o)) w
-does a (event.EventMessage id) c w = w
-does a (event.SignalInfo id) c w = w
-does a event.TracerExit c w = Requests.tracer_exit a w
-does a (event.Wait which) c w = on_thread (ready_thread w.table a which (number c.report)) Waits.consume w
-does a (event.StarterWait which flags) c w = Waits.starter_takes (ready_death w.table which (number c.report)) (ready_note w.table which flags (number c.report)) w
+abbrev pub work_of_event : ℕ → Event → Choice → Work → Work
+work_of_event a (event.Kill g s) c w = Sends.send s (info (pos 0) a (pos 0)) (target.Group g) w
+work_of_event a (event.Tgkill g id s) c w = Sends.send s (info (negsuc 5) a (pos 0)) (target.Thread id) w
+work_of_event a (event.Sigqueue g s v) c w = Sends.send s (info (negsuc 0) a v) (target.Group g) w
+work_of_event a (event.Mask id set) c w = alter (at_thread id (masked set)) w
+work_of_event a (event.SetAction id s how) c w = at id (Sends.set_action s how) w
+work_of_event a (event.Pause id) c w = alter (at_thread id (paused true)) w
+work_of_event a (event.Take id) c w = at id (Takes.take_numbered (number c.instance)) w
+work_of_event a (event.TakeAny g) c w = at (number c.thread) (Takes.take_numbered (number c.instance)) w
+work_of_event a (event.Halt id) c w = at id Stops.halt w
+work_of_event a (event.Trap id) c w = at id Stops.trap w
+work_of_event a (event.Die id) c w = at id (λ t. Ends.die t t.life) w
+work_of_event a (event.CloneThread id) c w = at id (λ t. Execs.clone t (number c.new_id)) w
+work_of_event a (event.Exec id) c w = at id Execs.exec w
+work_of_event a (event.Finish id) c w = at id Execs.finish w
+work_of_event a (event.Exit id code) c w = at id (λ t. Ends.exit t code) w
+work_of_event a (event.ExitGroup id code) c w = at id (Ends.exit_group code) w
+work_of_event a (event.Attach id) c w = at id (Requests.attach a) w
+work_of_event a (event.Seize id o) c w = at id (Requests.seize a o) w
+work_of_event a (event.Interrupt id) c w = alter (at_thread id interrupted) w
+work_of_event a (event.Cont id s) c w = at id (Requests.restart s) w
+work_of_event a (event.Listen id) c w = at id Requests.listen w
+work_of_event a (event.Detach id s) c w = at id (Requests.detach s) w
+work_of_event a (event.SetOptions id o) c w = alter (at_thread id (set_options o)) w
+work_of_event a (event.EventMessage id) c w = w
+work_of_event a (event.SignalInfo id) c w = w
+work_of_event a event.TracerExit c w = Requests.tracer_exit a w
+work_of_event a (event.Wait which) c w = on_thread (ready_thread w.table a which (number c.report)) Waits.consume w
+work_of_event a (event.StarterWait which flags) c w = Waits.starter_takes (ready_death w.table which (number c.report)) (ready_note w.table which flags (number c.report)) w
 
 -- all that an entry does to a table
 abbrev pub work_of : Table → Entry → Work
-work_of T e = settle (does e.actor e.event e.choice (begin T))
+work_of T e = complete_group_stops (work_of_event e.actor e.event e.choice (begin T))
 
 -- Replies, by the table before and the work done
 
@@ -127,10 +127,10 @@ abbrev pub sent : Table → Work → Reply
 sent T w = reply.Sent (T.accepted + 1) (fate_in w.ended (T.accepted + 1))
 
 -- which thread took which instance, and what it did with it
-abbrev pub took : Table → Option Thread → Option Instance → Reply
-took T None i = reply.Nothing
-took T (Some t) None = reply.Nothing
-took T (Some t) (Some i) = reply.Took t.id i (Takes.took T t i)
+abbrev pub took_reply : Table → Option Thread → Option Instance → Reply
+took_reply T None i = reply.Nothing
+took_reply T (Some t) None = reply.Nothing
+took_reply T (Some t) (Some i) = reply.Took t.id i (Takes.did_at_take T t i)
 
 -- the id that a wait names, its wait status as a word, and the number of the report
 abbrev pub waited : ℕ → Option Report → Reply
@@ -153,8 +153,8 @@ reply_of T a (event.Kill g s) c w = sent T w
 reply_of T a (event.Tgkill g id s) c w = sent T w
 reply_of T a (event.Sigqueue g s v) c w = sent T w
 reply_of T a (event.Attach id) c w = sent T w
-reply_of T a (event.Take id) c w = took T (thread_of T id) (instance_in T.waiting (number c.instance))
-reply_of T a (event.TakeAny g) c w = took T (thread_of T (number c.thread)) (instance_in T.waiting (number c.instance))
+reply_of T a (event.Take id) c w = took_reply T (thread_of T id) (instance_in T.waiting (number c.instance))
+reply_of T a (event.TakeAny g) c w = took_reply T (thread_of T (number c.thread)) (instance_in T.waiting (number c.instance))
 reply_of T a (event.CloneThread id) c w = reply.Cloned (number c.new_id)
 reply_of T a (event.Wait which) c w = waited_thread (ready_thread T a which (number c.report)) None
 reply_of T a (event.StarterWait which flags) c w = waited_thread (ready_death T which (number c.report)) (ready_note T which flags (number c.report))

@@ -6,7 +6,7 @@ use Rattle.tr_tracee.specs.declared.life.Stop.TheVariants as stop
 use Rattle.tr_tracee.specs.declared.thread.Thread.{Thread}
 use Rattle.tr_tracee.specs.Lives.{is_stopped}
 use Rattle.tr_tracee.specs.Marks.{joining, stopped}
-use Rattle.tr_tracee.specs.Threads.{is_traced, only, seized}
+use Rattle.tr_tracee.specs.Threads.{at_thread, is_traced, seized}
 use Rattle.tr_model.specs.Tables.{stop_in_effect}
 use Rattle.tr_model.specs.Moves.{Work, alter, at, enter, when}
 
@@ -23,13 +23,13 @@ stop_with t s w = enter t.id (if seized t.trace then stop.Event (stop_sig_of s) 
 abbrev pub halt : Thread → Work → Work
 halt t w =
     if is_traced t
-    then at_stop (stop_in_effect w.table t.group) (stop_with t) (alter (only t.id joining) w)
-    else alter (only t.id stopped) (alter (only t.id joining) w)
+    then at_stop (stop_in_effect w.table t.group) (stop_with t) (alter (at_thread t.id joining) w)
+    else alter (at_thread t.id stopped) (alter (at_thread t.id joining) w)
 
 -- the trap or the note mark is served; in a group-stop the thread then takes part in it
 abbrev pub trap_at : Thread → Option ℕ → Work → Work
 trap_at t None w = enter t.id (stop.Event stop_sig.Trap) w
-trap_at t (Some s) w = enter t.id (stop.Event (stop_sig_of s)) (alter (only t.id joining) w)
+trap_at t (Some s) w = enter t.id (stop.Event (stop_sig_of s)) (alter (at_thread t.id joining) w)
 
 -- PTRACE_EVENT_STOP shows the signal of the group-stop in effect, or SIGTRAP where there is none
 abbrev pub trap : Thread → Work → Work

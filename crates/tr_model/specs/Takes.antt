@@ -11,7 +11,7 @@ use Rattle.tr_pending.specs.declared.instance.Instance.{Instance}
 use Rattle.tr_tracee.specs.declared.life.End.TheVariants.{Killed}
 use Rattle.tr_tracee.specs.declared.thread.Thread.{Thread}
 use Rattle.tr_tracee.specs.Marks.{paused}
-use Rattle.tr_tracee.specs.Threads.{is_ready_to_take, is_traced, only}
+use Rattle.tr_tracee.specs.Threads.{at_thread, is_ready_to_take, is_traced}
 use Rattle.tr_group.specs.declared.stops.Action.{Action}
 use Rattle.tr_group.specs.declared.stops.Action.TheVariants.{Default, Ignore, Catch}
 use Rattle.tr_model.specs.declared.fates.Fate.TheVariants.{Delivered}
@@ -60,9 +60,9 @@ abbrev pub can_take : Table → Thread → Bool
 can_take T t = not (is_empty (choices T t))
 
 -- the instance with this number, if it is among these
-abbrev pub numbered : ℕ → List Instance → Option Instance
-numbered n [] = None
-numbered n (i ∷ is) = if i.n == n then Some i else numbered n is
+abbrev pub with_number : ℕ → List Instance → Option Instance
+with_number n [] = None
+with_number n (i ∷ is) = if i.n == n then Some i else with_number n is
 
 -- Acting
 
@@ -82,7 +82,7 @@ did_of Catch s = did.Caught
 
 -- a caught signal ends a pause; after a SIGCONT a stop signal starts no group-stop
 abbrev pub act : Thread → ℕ → Bool → Did → Work → Work
-act t s came did.Caught w = alter (only t.id (paused false)) w
+act t s came did.Caught w = alter (at_thread t.id (paused false)) w
 act t s came did.Ignored w = w
 act t s came did.Stopping w = when (not came) (initiate t.group s) w
 act t s came did.Dying w = if s == 9 then kill_group t.group w else begin_death t.group (Killed s) false w
@@ -95,8 +95,8 @@ act_on t s came w = act t s came (did_of (action_of w.table t.group s) s) w
 -- Taking
 
 -- a tracee's signal is reported to its tracer, whatever the action; an untraced thread does as the action says
-abbrev pub took : Table → Thread → Instance → Did
-took T t i = if is_traced t then did.Reported else did_of (action_of T t.group i.sig) i.sig
+abbrev pub did_at_take : Table → Thread → Instance → Did
+did_at_take T t i = if is_traced t then did.Reported else did_of (action_of T t.group i.sig) i.sig
 
 -- the instance is pending no more: delivered
 abbrev pub deliver : ℕ → Work → Work
@@ -108,7 +108,7 @@ take t i w = if is_traced t then hold t.id i.n w else act_on t i.sig false (deli
 
 -- a number that isn't among what the thread can take changes nothing
 abbrev pub take_numbered : ℕ → Thread → Work → Work
-take_numbered n t w = on_instance (numbered n (choices w.table t)) (take t) w
+take_numbered n t w = on_instance (with_number n (choices w.table t)) (take t) w
 
 -- the queue of what is taken: its own queue where something in it can be taken, else the shared one
 abbrev pub taken_from : Option Instance → Thread → Target

@@ -8,8 +8,8 @@ use Rattle.tr_wait.specs.Words.{asks_for}
 use Rattle.tr_tracee.specs.declared.thread.Report.{Report}
 use Rattle.tr_tracee.specs.declared.thread.Thread.{Thread}
 use Rattle.tr_tracee.specs.Lives.{is_dead}
-use Rattle.tr_tracee.specs.Stops.{told_nothing}
-use Rattle.tr_tracee.specs.Threads.{is_leader, is_traced, only}
+use Rattle.tr_tracee.specs.Stops.{without_report}
+use Rattle.tr_tracee.specs.Threads.{at_thread, is_leader, is_traced}
 use Rattle.tr_model.specs.declared.rows.Group.{Group}
 use Rattle.tr_model.specs.Ends.{pass_on, remove_thread}
 use Rattle.tr_model.specs.Requests.{tracees}
@@ -114,7 +114,7 @@ abbrev pub consume : Thread → Work → Work
 consume t w =
     if is_dead t.life
     then if is_leader t then pass_on t t.report w else remove_thread t w
-    else alter (only t.id told_nothing) w
+    else alter (at_thread t.id without_report) w
 
 -- the note is consumed, so no other wait gives it
 abbrev pub no_note : Group → Group

@@ -4,7 +4,7 @@ use Rattle.std.proofs.lemmas.Bool.{cases_lt}
 use Rattle.std.proofs.lemmas.Bool.Decides.{nat_tests, eqb_tells}
 use Rattle.tr_sigset.specs.Sets.{has}
 use Rattle.tr_sigset.specs.declared.sets.SigSet.{SigSet}
-use Rattle.tr_pending.specs.Waiting.{is_waiting, first_of, best_of, rather, place_of, IsMask}
+use Rattle.tr_pending.specs.Waiting.{best_of, first_of, is_waiting, IsMask, place_of, preferred_of}
 use Rattle.tr_pending.specs.declared.instance.Instance.{Instance}
 
 -- tests and options
@@ -40,17 +40,17 @@ waits_here x q = ap (λ b. b || is_waiting x.sig q) (itself x.sig)
 waits_later : (x : Instance) (q : List Instance) (n : ℕ) → is_waiting n q ≡ true → is_waiting n (x ∷ q) ≡ true
 waits_later x q n waits = ap (λ b. (x.sig == n) || b) waits ∙ or_true (x.sig == n)
 
-first_wins : (x : Instance) (m : Option Instance) → ((k : Instance) → m ≡ Some k → x.sig ≤ k.sig) → rather x m ≡ x
+first_wins : (x : Instance) (m : Option Instance) → ((k : Instance) → m ≡ Some k → x.sig ≤ k.sig) → preferred_of x m ≡ x
 first_wins x None least = refl
 first_wins x (Some k) least = let le = least k refl in grind (arith, nat_tests)
 
-later_wins : (x j : Instance) → j.sig < x.sig → rather x (Some j) ≡ j
+later_wins : (x j : Instance) → j.sig < x.sig → preferred_of x (Some j) ≡ j
 later_wins x j lt = grind (arith, nat_tests)
 
 module _ (blocked : SigSet) where
   -- of the best of the queue with x in front, by whether x is blocked
   abbrev best_with : Bool → Instance → Option Instance → Option Instance
-  best_with b x m = if b then m else Some (rather x m)
+  best_with b x m = if b then m else Some (preferred_of x m)
 
   -- an instance whose signal waits and isn't blocked
   record IsReady (j : Instance) (q : List Instance) : Type 0 where
@@ -103,7 +103,7 @@ module _ (blocked : SigSet) where
     other_step false x j q e low ne best number =
         let above : least ≤ x.sig = at_least (x ∷ q) low x (record { waits = waits_here x q; unblocked = e }) in
         let lt : j.sig < x.sig = omega (arith, ne) in
-        ap (λ m. Some (rather x m)) best ∙ ap (λ v. Some v) (later_wins x j lt)
+        ap (λ m. Some (preferred_of x m)) best ∙ ap (λ v. Some v) (later_wins x j lt)
 
     best_first : (q : List Instance) → is_waiting least q ≡ true → NoneBelow q → IsBest q
     best_first [] waits low = cc

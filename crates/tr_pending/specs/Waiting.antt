@@ -32,14 +32,14 @@ abbrev pub without_first : ℕ → List Instance → List Instance
 without_first signal queue = remove queue (place_of signal queue)
 
 -- this instance, unless the other has a lesser signal number
-abbrev pub rather : Instance → Option Instance → Instance
-rather i None = i
-rather i (Some j) = if nat_le i.sig j.sig then i else j
+abbrev pub preferred_of : Instance → Option Instance → Instance
+preferred_of i None = i
+preferred_of i (Some j) = if nat_le i.sig j.sig then i else j
 
 -- the first instance of the least signal number that isn't blocked
 abbrev pub best_of : SigSet → List Instance → Option Instance
 best_of blocked [] = None
-best_of blocked (i ∷ rest) = if has blocked i.sig then best_of blocked rest else Some (rather i (best_of blocked rest))
+best_of blocked (i ∷ rest) = if has blocked i.sig then best_of blocked rest else Some (preferred_of i (best_of blocked rest))
 
 -- the instances whose signal is in the set, and the others
 abbrev pub flushed_by : SigSet → List Instance → List Instance

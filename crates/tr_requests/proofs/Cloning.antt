@@ -11,7 +11,7 @@ use Rattle.tr_model.specs.declared.events.Choice.{Choice}
 use Rattle.tr_model.specs.declared.events.Event.TheVariants.{CloneThread}
 use Rattle.tr_model.specs.declared.replies.Refusal.{Refusal}
 use Rattle.tr_model.specs.declared.replies.Refusal.TheVariants.{Again, Busy, NotRunning, Srch}
-use Rattle.tr_model.specs.Causes.{at_limit, first, script, thread_then, unless, where_is}
+use Rattle.tr_model.specs.Causes.{at_limit, first_cause, refused_if, script, thread_then, unless}
 use Rattle.std.specs.Prelude.{OnOk}
 use Rattle.tr_model.specs.Moves.{added, begin, on_thread, spawn, spawned}
 use Rattle.tr_model.proofs.FreeIds.{new_id_is_new}
@@ -39,7 +39,7 @@ pub is_clone : (T : Table) (a tid id : ℕ) → check T a (CloneThread tid) ≡ 
 is_clone T a tid id e = go (thread_of T tid) refl e
   where
     by : (t : Thread) → thread_of T tid ≡ Some t → (x y z : Bool) → (is_free t.life && not t.pausing) ≡ x → at_limit T t ≡ z
-        → refused_or (first (unless x NotRunning ∷ where_is y Busy ∷ where_is z Again ∷ [])) (quiet_or None (gives_id (new_id T t.group))) ≡ Ok (Due (gives_id id)) → IsClone T tid id
+        → refused_or (first_cause (unless x NotRunning ∷ refused_if y Busy ∷ refused_if z Again ∷ [])) (quiet_or None (gives_id (new_id T t.group))) ≡ Ok (Due (gives_id id)) → IsClone T tid id
     by t h false y z f g q = absurd (refused_due NotRunning (gives_id id) q)
     by t h true true z f g q = absurd (refused_due Busy (gives_id id) q)
     by t h true false true f g q = absurd (refused_due Again (gives_id id) q)
@@ -54,7 +54,7 @@ is_clone T a tid id e = go (thread_of T tid) refl e
           new = sym (given (new_id T t.group) id (same_choice (gives_id (new_id T t.group)) (gives_id id) q));
         }
 
-    go : (o : Option Thread) → thread_of T tid ≡ o → refused_or (first (thread_then o (λ t. script T t ++ where_is (at_limit T t) Again ∷ []))) (quiet_or None (clone_choice T o)) ≡ Ok (Due (gives_id id)) → IsClone T tid id
+    go : (o : Option Thread) → thread_of T tid ≡ o → refused_or (first_cause (thread_then o (λ t. script T t ++ refused_if (at_limit T t) Again ∷ []))) (quiet_or None (clone_choice T o)) ≡ Ok (Due (gives_id id)) → IsClone T tid id
     go None h q = absurd (refused_due Srch (gives_id id) q)
     go (Some t) h q = by t h (is_free t.life && not t.pausing) (has_mark t || can_take T t) (at_limit T t) refl refl q
 
@@ -76,33 +76,33 @@ no_thread T id e =
 
 -- What a check answers
 
-first_none : (xs ys : List (Option Refusal)) → first xs ≡ None → first (xs ++ ys) ≡ first ys
+first_none : (xs ys : List (Option Refusal)) → first_cause xs ≡ None → first_cause (xs ++ ys) ≡ first_cause ys
 first_none [] ys e = refl
 first_none (None ∷ xs) ys e = first_none xs ys e
 first_none (Some why ∷ xs) ys e = cc
 
-first_some : (xs ys : List (Option Refusal)) (why : Refusal) → first xs ≡ Some why → first (xs ++ ys) ≡ Some why
+first_some : (xs ys : List (Option Refusal)) (why : Refusal) → first_cause xs ≡ Some why → first_cause (xs ++ ys) ≡ Some why
 first_some [] ys why e = cc
 first_some (None ∷ xs) ys why e = first_some xs ys why e
 first_some (Some x ∷ xs) ys why e = e
 
 answer : Table → Option Thread → Result Checked Refusal
-answer T o = refused_or (first (thread_then o (λ t. script T t ++ where_is (at_limit T t) Again ∷ []))) (quiet_or None (clone_choice T o))
+answer T o = refused_or (first_cause (thread_then o (λ t. script T t ++ refused_if (at_limit T t) Again ∷ []))) (quiet_or None (clone_choice T o))
 
-pub refused_by_script : (T : Table) (a tid : ℕ) (t : Thread) (why : Refusal) → thread_of T tid ≡ Some t → first (script T t) ≡ Some why → Err why ≡ check T a (CloneThread tid)
+pub refused_by_script : (T : Table) (a tid : ℕ) (t : Thread) (why : Refusal) → thread_of T tid ≡ Some t → first_cause (script T t) ≡ Some why → Err why ≡ check T a (CloneThread tid)
 unfolding answer
 refused_by_script T a tid t why e h =
-    sym (ap (answer T) e ∙ ap (λ o. refused_or o (quiet_or None (clone_choice T (Some t)))) (first_some (script T t) (where_is (at_limit T t) Again ∷ []) why h))
+    sym (ap (answer T) e ∙ ap (λ o. refused_or o (quiet_or None (clone_choice T (Some t)))) (first_some (script T t) (refused_if (at_limit T t) Again ∷ []) why h))
 
-pub refused_at_limit : (T : Table) (a tid : ℕ) (t : Thread) → thread_of T tid ≡ Some t → first (script T t) ≡ None → at_limit T t ≡ true → Err Again ≡ check T a (CloneThread tid)
+pub refused_at_limit : (T : Table) (a tid : ℕ) (t : Thread) → thread_of T tid ≡ Some t → first_cause (script T t) ≡ None → at_limit T t ≡ true → Err Again ≡ check T a (CloneThread tid)
 unfolding answer
 refused_at_limit T a tid t e h k =
-    sym (ap (answer T) e ∙ ap (λ o. refused_or o (quiet_or None (clone_choice T (Some t)))) (first_none (script T t) (where_is (at_limit T t) Again ∷ []) h ∙ ap (λ b. first (where_is b Again ∷ [])) k))
+    sym (ap (answer T) e ∙ ap (λ o. refused_or o (quiet_or None (clone_choice T (Some t)))) (first_none (script T t) (refused_if (at_limit T t) Again ∷ []) h ∙ ap (λ b. first_cause (refused_if b Again ∷ [])) k))
 
-pub due_with_id : (T : Table) (a tid : ℕ) (t : Thread) → thread_of T tid ≡ Some t → first (script T t) ≡ None → at_limit T t ≡ false → Ok (Due (gives_id (new_id T t.group))) ≡ check T a (CloneThread tid)
+pub due_with_id : (T : Table) (a tid : ℕ) (t : Thread) → thread_of T tid ≡ Some t → first_cause (script T t) ≡ None → at_limit T t ≡ false → Ok (Due (gives_id (new_id T t.group))) ≡ check T a (CloneThread tid)
 unfolding answer
 due_with_id T a tid t e h k =
-    sym (ap (answer T) e ∙ ap (λ o. refused_or o (quiet_or None (clone_choice T (Some t)))) (first_none (script T t) (where_is (at_limit T t) Again ∷ []) h ∙ ap (λ b. first (where_is b Again ∷ [])) k))
+    sym (ap (answer T) e ∙ ap (λ o. refused_or o (quiet_or None (clone_choice T (Some t)))) (first_none (script T t) (refused_if (at_limit T t) Again ∷ []) h ∙ ap (λ b. first_cause (refused_if b Again ∷ [])) k))
 
 pub none_script : (o : Option Refusal) → ((why : Refusal) → o ≡ Some why → ⊥) → o ≡ None
 none_script None h = refl

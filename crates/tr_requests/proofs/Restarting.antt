@@ -10,7 +10,7 @@ use Rattle.tr_model.specs.declared.checked.Checked.TheVariants.{Due}
 use Rattle.tr_model.specs.declared.events.Choice.{Choice}
 use Rattle.tr_model.specs.declared.replies.Refusal.{Refusal}
 use Rattle.tr_model.specs.declared.replies.Refusal.TheVariants.{Io, Srch}
-use Rattle.tr_model.specs.Causes.{first, stopped, thread_then, unless, where_is}
+use Rattle.tr_model.specs.Causes.{cause_unless_stopped, first_cause, refused_if, thread_then, unless}
 use Rattle.tr_model.specs.Moves.{Work, at, on_thread}
 use Rattle.tr_model.specs.Preferred.{quiet_or, refused_or}
 use Rattle.tr_model.specs.Requests.{restart, restart_held}
@@ -59,11 +59,11 @@ refused_due why c e = cc
 pub due_at_most : (T : Table) (a id s : ℕ) → restart_checked T a id s ≡ Ok (Due no_choice) → s ≤ 64
 due_at_most T a id s e = go (thread_of T id) e
   where
-    by : (x b : Bool) → nat_lt 64 s ≡ b → refused_or (first (unless x Srch ∷ where_is b Io ∷ [])) (quiet_or None no_choice) ≡ Ok (Due no_choice) → s ≤ 64
+    by : (x b : Bool) → nat_lt 64 s ≡ b → refused_or (first_cause (unless x Srch ∷ refused_if b Io ∷ [])) (quiet_or None no_choice) ≡ Ok (Due no_choice) → s ≤ 64
     by false b f q = absurd (refused_due Srch no_choice q)
     by true true f q = absurd (refused_due Io no_choice q)
     by true false f q = ltb-false 64 s f
 
-    go : (o : Option Thread) → refused_or (first (thread_then o (λ t. stopped a t ∷ where_is (nat_lt 64 s) Io ∷ []))) (quiet_or None no_choice) ≡ Ok (Due no_choice) → s ≤ 64
+    go : (o : Option Thread) → refused_or (first_cause (thread_then o (λ t. cause_unless_stopped a t ∷ refused_if (nat_lt 64 s) Io ∷ []))) (quiet_or None no_choice) ≡ Ok (Due no_choice) → s ≤ 64
     go None q = absurd (refused_due Srch no_choice q)
     go (Some t) q = by _ (nat_lt 64 s) refl q

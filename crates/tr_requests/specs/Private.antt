@@ -1,6 +1,6 @@
 -- What private functions answer: no public contract cites these.
 use Rattle.std.specs.Prelude.{Bool, List, None, Option, Result, Some, [], filter, if◌then◌else◌, is_some, nat_lt, not, pos, ℕ, ◌&&◌, ◌==◌, ◌∷◌}
-use Rattle.tr_model.specs.Causes.{first, stopped, traceable, where_is, with_thread}
+use Rattle.tr_model.specs.Causes.{cause_unless_stopped, first_cause, refused_if, traceable, with_thread}
 use Rattle.tr_model.specs.Ends.{pass_on, remove_thread, word_of_end}
 use Rattle.tr_model.specs.Execs.{break_others, trap_new}
 use Rattle.tr_model.specs.Moves.{Work, alter, enqueue, enter}
@@ -20,7 +20,7 @@ use Rattle.tr_model.specs.declared.rows.Group.{Group}
 use Rattle.tr_pending.specs.declared.instance.Instance.{Instance}
 use Rattle.tr_tracee.specs.Ends.{execing, leaving}
 use Rattle.tr_tracee.specs.Lives.{cont_came, held, is_dead}
-use Rattle.tr_tracee.specs.Threads.{is_leader, is_tracee_of, only, options_of}
+use Rattle.tr_tracee.specs.Threads.{at_thread, is_leader, is_tracee_of, options_of}
 use Rattle.tr_tracee.specs.declared.life.End.{End}
 use Rattle.tr_tracee.specs.declared.thread.Thread.{Thread}
 use Rattle.tr_wait.specs.Words.{asks_for}
@@ -46,19 +46,19 @@ stop_or_trap former t w = if (options_of t.trace).exec then enter t.id (stop.Exe
 
 -- the others begin to leave
 abbrev pub wait_for_others : Thread → Work → Work
-wait_for_others t w = alter (only t.id execing) (break_others t.group t.id w)
+wait_for_others t w = alter (at_thread t.id execing) (break_others t.group t.id w)
 
 -- Exits
 
 -- with option exit in its exit stop, else leaving
 abbrev pub leave_or_stop : Thread → End → Work → Work
-leave_or_stop t e w = if (options_of t.trace).exit then enter t.id (stop.Exit (word_of_end e)) w else alter (only t.id (leaving e)) w
+leave_or_stop t e w = if (options_of t.trace).exit then enter t.id (stop.Exit (word_of_end e)) w else alter (at_thread t.id (leaving e)) w
 
 -- Restarts, by the signal that the tracer gives: none for 0
 
 -- what a check answers of a restart with this number
 abbrev pub restart_checked : Table → ℕ → ℕ → ℕ → Result Checked Refusal
-restart_checked T a id s = refused_or (first (with_thread T id (λ t. stopped a t ∷ where_is (nat_lt 64 s) Io ∷ []))) (quiet_or None no_choice)
+restart_checked T a id s = refused_or (first_cause (with_thread T id (λ t. cause_unless_stopped a t ∷ refused_if (nat_lt 64 s) Io ∷ []))) (quiet_or None no_choice)
 
 -- from a signal-delivery-stop that holds the instance
 abbrev pub restart_by : Thread → Option ℕ → Instance → Work → Work
@@ -92,7 +92,7 @@ to_kill_among ts a = filter (is_to_kill a) ts
 
 -- what a check answers of an attach or a seizure
 abbrev pub attach_checked : Table → ℕ → Result Checked Refusal
-attach_checked T id = refused_or (first (with_thread T id (λ t. traceable T t ∷ []))) (quiet_or None no_choice)
+attach_checked T id = refused_or (first_cause (with_thread T id (λ t. traceable T t ∷ []))) (quiet_or None no_choice)
 
 -- SIGSTOP, by the kernel
 abbrev pub attach_sends : Thread → Work → Work
@@ -110,9 +110,9 @@ first_number [] = None
 first_number (r ∷ rs) = Some r
 
 -- due with the first report that is ready; without one nothing is given
-abbrev pub giving : Option ℕ → Checked
-giving None = Quiet Nothing
-giving (Some r) = Due (gives_report r)
+abbrev pub due_report : Option ℕ → Checked
+due_report None = Quiet Nothing
+due_report (Some r) = Due (gives_report r)
 
 -- a tracer that knows of a death: the dead thread goes, but a leader's death is then reported to the starter
 abbrev pub consume_death : Thread → Work → Work

@@ -107,6 +107,6 @@ pub fn clone_thread(step: &mut Step, actor: u32, tid: u32, id: u32) -> Result<Re
     step.begin(2)?;
     step.add(&thread.child(id, stop_mark))?;
     clone_stop_where(step, &thread, id);
-    step.settle();
+    step.complete_group_stops();
     Ok(Reply::Cloned { tid: id })
 }

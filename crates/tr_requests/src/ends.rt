@@ -4,7 +4,7 @@ ghost use Rattle.std.specs.Prelude.{◌≡◌, ◌≤◌, ℕ, IfOk, Ok, OnErr};
 ghost use Rattle.tr_tracee.specs.declared.life.Life.TheVariants as life;
 ghost use Rattle.tr_model.specs.declared.checked.Checked.TheVariants.{Due};
 ghost use Rattle.tr_model.specs.declared.events.Event.TheVariants.{Die, Exit, ExitGroup};
-ghost use Rattle.tr_model.specs.Ends.{bury, dead_now, die, end_of_dead, exit, exit_group, exited, last, last_death, pass_on, remove_thread, report_leader, told_end, word_of_end};
+ghost use Rattle.tr_model.specs.Ends.{bury, die, die_and_flush, end_of_dead, exit, exit_group, exited, last_death, pass_on, remove_thread, report_if_last, report_leader, reported_end, word_of_end};
 ghost use Rattle.tr_model.specs.Moves.{at, report_death};
 ghost use Rattle.tr_model.specs.Preferred.{check};
 ghost use Rattle.tr_model.specs.Steps.{no_choice};
@@ -15,7 +15,7 @@ use std::alloc::AllocError;
 use tr_model::{Checked, Choice, Refusal, Reply, Target};
 use tr_signals::check_script;
 use tr_steps::Step;
-use tr_table::{Own, Table};
+use tr_table::{Table, ThreadChange};
 use tr_tracee::{End, Life, Stop, Thread};
 use tr_wait::encode;
 
@@ -42,7 +42,7 @@ fn leave_or_stop(step: &mut Step, thread: &Thread, end: &End)
     if thread.options().exit {
         step.enter(thread.id, &Stop::Exit(word_of_end(end)));
     } else {
-        step.change_thread(thread.id, &Own::Leave(*end));
+        step.change_thread(thread.id, &ThreadChange::Leave(*end));
     }
 }
 
@@ -51,7 +51,7 @@ fn exit_thread(step: &mut Step, thread: &Thread, code: u32)
     requires { 1 ≤ step.old.room }
     ensures { Moves (exit thread.now code) 1 step.old step.new }
 {
-    step.change_thread(thread.id, &Own::Unmark);
+    step.change_thread(thread.id, &ThreadChange::Unmark);
     leave_or_stop(step, thread, &exited(code));
 }
 
@@ -81,7 +81,7 @@ pub fn exit(step: &mut Step, actor: u32, tid: u32, code: u32) -> Result<Reply, A
 {
     step.begin(1)?;
     exit_at(step, tid, code);
-    step.settle();
+    step.complete_group_stops();
     Ok(Reply::Done)
 }
 
@@ -112,15 +112,15 @@ pub fn exit_group(step: &mut Step, actor: u32, tid: u32, code: u32) -> Result<Re
 {
     step.begin(1)?;
     exit_group_at(step, tid, code);
-    step.settle();
+    step.complete_group_stops();
     Ok(Reply::Done)
 }
 
 // Deaths
 
 /// The end that a death report tells: the group's where it is dying, else the thread's own.
-fn told_end(table: &Table, thread: &Thread, end: &End) -> End
-    ensures { result ≡ told_end table.now.table thread.now end.now }
+fn reported_end(table: &Table, thread: &Thread, end: &End) -> End
+    ensures { result ≡ reported_end table.now.table thread.now end.now }
 {
     table.end_of(thread.group).unwrap_or(*end)
 }
@@ -137,9 +137,9 @@ fn end_of_dead(life: &Life) -> End
 
 fn report_end(step: &mut Step, thread: &Thread, end: &End)
     requires { 1 ≤ step.old.room }
-    ensures { Moves (λ w. report_death thread.now.id (told_end w.table thread.now end.now) w) 1 step.old step.new }
+    ensures { Moves (λ w. report_death thread.now.id (reported_end w.table thread.now end.now) w) 1 step.old step.new }
 {
-    let told = told_end(step.table(), thread, end);
+    let told = reported_end(step.table(), thread, end);
     step.report_death(thread.id, &told);
 }
 
@@ -169,9 +169,9 @@ fn last_death(step: &mut Step, tgid: u32)
     report_leader_at(step, tgid);
 }
 
-fn last(step: &mut Step, tgid: u32)
+fn report_if_last(step: &mut Step, tgid: u32)
     requires { 1 ≤ step.old.room }
-    ensures { Moves (last tgid) 1 step.old step.new }
+    ensures { Moves (report_if_last tgid) 1 step.old step.new }
 {
     if step.table().all_dead(tgid) {
         last_death(step, tgid);
@@ -194,21 +194,21 @@ fn bury(step: &mut Step, thread: &Thread, end: &End)
 }
 
 /// A leaving thread is dead, and what waits for it is flushed.
-fn dead_now(step: &mut Step, thread: &Thread)
+fn die_and_flush(step: &mut Step, thread: &Thread)
     requires { 1 ≤ step.old.room }
-    ensures { Moves (dead_now thread.now) 0 step.old step.new }
+    ensures { Moves (die_and_flush thread.now) 0 step.old step.new }
 {
-    step.change_thread(thread.id, &Own::Die);
+    step.change_thread(thread.id, &ThreadChange::Die);
     step.flush_queue(Target::Thread(thread.id));
 }
 
 fn die_told(step: &mut Step, thread: &Thread, end: &End)
     requires { 2 ≤ step.old.room }
-    ensures { Moves (λ w. last thread.now.group (bury thread.now end.now (dead_now thread.now w))) 2 step.old step.new }
+    ensures { Moves (λ w. report_if_last thread.now.group (bury thread.now end.now (die_and_flush thread.now w))) 2 step.old step.new }
 {
-    dead_now(step, thread);
+    die_and_flush(step, thread);
     bury(step, thread, end);
-    last(step, thread.group);
+    report_if_last(step, thread.group);
 }
 
 /// A leaving thread dies; one that isn't told is in its exit stop first.
@@ -265,7 +265,7 @@ pub fn die(step: &mut Step, actor: u32, tid: u32) -> Result<Reply, AllocError>
 {
     step.begin(2)?;
     die_at(step, tid);
-    step.settle();
+    step.complete_group_stops();
     Ok(Reply::Done)
 }
 
@@ -282,7 +282,7 @@ pub(crate) fn pass_on(step: &mut Step, thread: &Thread)
     requires { 1 ≤ step.old.room }
     ensures { Moves (pass_on thread.now thread.now.report) 1 step.old step.new }
 {
-    step.change_thread(thread.id, &Own::Release);
+    step.change_thread(thread.id, &ThreadChange::Release);
     if thread.report.is_some() {
         report_leader(step, thread);
     }

@@ -18,7 +18,7 @@ use tr_pending::Info;
 use tr_signals::check_script;
 use tr_sigset::Signal;
 use tr_steps::Step;
-use tr_table::{GroupChange, Own, Table};
+use tr_table::{GroupChange, Table, ThreadChange};
 use tr_tracee::{End, Stop, Thread};
 
 fn send_trap(step: &mut Step, thread: &Thread)
@@ -76,7 +76,7 @@ fn wait_for_others(step: &mut Step, thread: &Thread)
     ensures { Moves (wait_for_others thread.now) 0 step.old step.new }
 {
     step.leave_for_exec(thread.group, thread.id, &End::Exited(0));
-    step.change_thread(thread.id, &Own::BeginExec);
+    step.change_thread(thread.id, &ThreadChange::BeginExec);
 }
 
 fn is_last(table: &Table, thread: &Thread) -> bool
@@ -123,7 +123,7 @@ pub fn exec(step: &mut Step, actor: u32, tid: u32) -> Result<Reply, AllocError>
 {
     step.begin(3)?;
     exec_at(step, tid);
-    step.settle();
+    step.complete_group_stops();
     Ok(Reply::Done)
 }
 
@@ -142,7 +142,7 @@ fn finish_thread(step: &mut Step, thread: &Thread)
     ensures { Moves (finish thread.now) 4 step.old step.new }
 {
     step.take_place(thread.id);
-    step.change_thread(thread.group, &Own::EndExec);
+    step.change_thread(thread.group, &ThreadChange::EndExec);
     new_program_at(step, thread.group, thread.id);
 }
 
@@ -180,6 +180,6 @@ pub fn finish(step: &mut Step, actor: u32, tid: u32) -> Result<Reply, AllocError
 {
     step.begin(4)?;
     finish_at(step, tid);
-    step.settle();
+    step.complete_group_stops();
     Ok(Reply::Done)
 }

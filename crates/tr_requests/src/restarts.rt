@@ -20,7 +20,7 @@ use tr_pending::{Info, Instance};
 use tr_signals::act_on;
 use tr_sigset::Signal;
 use tr_steps::Step;
-use tr_table::{Own, Table};
+use tr_table::{Table, ThreadChange};
 use tr_tracee::Thread;
 
 fn tracer_of(thread: &Thread) -> u32
@@ -125,7 +125,7 @@ pub fn cont(step: &mut Step, actor: u32, tid: u32, sig: u8) -> Result<Reply, All
     let signal = Signal::new(sig);
     step.begin(3)?;
     restart_at(step, tid, signal);
-    step.settle();
+    step.complete_group_stops();
     Ok(Reply::Done)
 }
 
@@ -134,7 +134,7 @@ fn untrace(step: &mut Step, thread: &Thread)
     ensures { Moves (untrace thread.now) 0 step.old step.new }
 {
     let in_effect = step.stop_now(thread.group).is_some();
-    step.change_thread(thread.id, &Own::Detach(in_effect));
+    step.change_thread(thread.id, &ThreadChange::Detach(in_effect));
 }
 
 /// Restarts a tracee, and ends its tracing.
@@ -175,7 +175,7 @@ pub fn detach(step: &mut Step, actor: u32, tid: u32, sig: u8) -> Result<Reply, A
     let signal = Signal::new(sig);
     step.begin(3)?;
     detach_at(step, tid, signal);
-    step.settle();
+    step.complete_group_stops();
     Ok(Reply::Done)
 }
 
@@ -214,6 +214,6 @@ pub fn listen(step: &mut Step, actor: u32, tid: u32) -> Result<Reply, AllocError
 {
     step.begin(1)?;
     listen_at(step, tid);
-    step.settle();
+    step.complete_group_stops();
     Ok(Reply::Done)
 }

@@ -216,6 +216,6 @@ pub fn starter_wait(
     let reply = waited_thread(&thread, &group);
     step.begin(0)?;
     starter_takes(step, &thread, &group);
-    step.settle();
+    step.complete_group_stops();
     Ok(reply)
 }

@@ -157,6 +157,6 @@ pub fn tracer_exit(step: &mut Step, alloc: Global, actor: u32) -> Result<Reply, 
     step.begin(3 * killed.len() + 3 * left.len())?;
     kill_each(step, &killed);
     leave_each(step, actor, &left);
-    step.settle();
+    step.complete_group_stops();
     Ok(Reply::Done)
 }

@@ -3,7 +3,7 @@
 ghost use Rattle.std.specs.Prelude.{◌≡◌, ◌≤◌, ℕ, IfOk, Ok, OnErr};
 ghost use Rattle.tr_model.specs.declared.checked.Checked.TheVariants.{Due};
 ghost use Rattle.tr_model.specs.declared.events.Event.TheVariants.{Attach, Interrupt, Seize, SetOptions};
-ghost use Rattle.tr_model.specs.Causes.{stopped, traceable};
+ghost use Rattle.tr_model.specs.Causes.{cause_unless_stopped, traceable};
 ghost use Rattle.tr_model.specs.Moves.{at};
 ghost use Rattle.tr_model.specs.Preferred.{check};
 ghost use Rattle.tr_model.specs.Requests.{attach, seize, trace};
@@ -17,7 +17,7 @@ use tr_pending::Info;
 use tr_signals::{change_own, fate_in, show_stop};
 use tr_sigset::Signal;
 use tr_steps::Step;
-use tr_table::{Own, Table};
+use tr_table::{Table, ThreadChange};
 use tr_tracee::{Options, Thread, Trace};
 
 /// Why nobody can attach to a thread: it is traced, not live, or its group is dying.
@@ -33,7 +33,7 @@ fn traceable(table: &Table, thread: &Thread) -> Option<Refusal>
 
 /// Why a request on a ptrace-stop is refused: the thread isn't a tracee of the actor, or in no ptrace-stop.
 pub(crate) fn stopped(actor: u32, thread: &Thread) -> Option<Refusal>
-    ensures { result ≡ stopped actor thread.now }
+    ensures { result ≡ cause_unless_stopped actor thread.now }
 {
     if thread.is_tracee_of(actor) && thread.life.is_in_stop() {
         None
@@ -50,7 +50,7 @@ fn trace(step: &mut Step, actor: u32, seized: bool, options: Options, thread: &T
         seized,
         options,
     };
-    step.change_thread(thread.id, &Own::TraceBy(trace));
+    step.change_thread(thread.id, &ThreadChange::TraceBy(trace));
 }
 
 /// SIGSTOP, as `PTRACE_ATTACH` sends it: by the kernel.
@@ -115,7 +115,7 @@ pub fn attach(step: &mut Step, actor: u32, tid: u32) -> Result<Reply, AllocError
     step.begin(4)?;
     let n = step.next_number();
     attach_at(step, actor, tid);
-    step.settle();
+    step.complete_group_stops();
     let fate = fate_in(step.ended(), n);
     Ok(Reply::Sent { n, fate })
 }
@@ -154,7 +154,7 @@ pub fn seize(step: &mut Step, actor: u32, tid: u32, options: Options) -> Result<
 {
     step.begin(1)?;
     seize_at(step, actor, options, tid);
-    step.settle();
+    step.complete_group_stops();
     Ok(Reply::Done)
 }
 
@@ -182,7 +182,7 @@ pub fn interrupt(step: &mut Step, actor: u32, tid: u32) -> Result<Reply, AllocEr
     ensures did { IfOk result (IsStepOf step.old.work.table (entry actor (Interrupt tid)) step.new) }
     ensures err { OnErr result (step.new.work.table ≡ step.old.work.table) }
 {
-    change_own(step, tid, &Own::Interrupt)
+    change_own(step, tid, &ThreadChange::Interrupt)
 }
 
 /// Whether new options for a tracee are refused or due: ESRCH where it isn't a tracee of the actor in a ptrace-stop.
@@ -215,5 +215,5 @@ pub fn set_options(
     ensures did { IfOk result (IsStepOf step.old.work.table (entry actor (SetOptions tid options)) step.new) }
     ensures err { OnErr result (step.new.work.table ≡ step.old.work.table) }
 {
-    change_own(step, tid, &Own::SetOptions(options))
+    change_own(step, tid, &ThreadChange::SetOptions(options))
 }

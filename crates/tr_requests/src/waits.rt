@@ -11,20 +11,20 @@ ghost use Rattle.tr_model.specs.Preferred.{check};
 ghost use Rattle.tr_model.specs.Steps.{gives_report, waited, waited_note, waited_thread};
 ghost use Rattle.tr_model.specs.Waits.{consume, has_report, report_number, with_report};
 ghost use Rattle.tr_steps.specs.UnderWay.{IsStepOf, Moves};
-ghost use Rattle.tr_requests.specs.Private.{consume_death, first_number, giving};
+ghost use Rattle.tr_requests.specs.Private.{consume_death, due_report, first_number};
 ghost use Rattle.tr_requests.specs.Waits.{asked_among};
 
 use crate::ends::{pass_on, remove_thread};
 use std::alloc::AllocError;
 use tr_model::{Checked, Choice, Group, Refusal, Reply};
 use tr_steps::Step;
-use tr_table::{Own, Table};
+use tr_table::{Table, ThreadChange};
 use tr_tracee::{Report, Thread};
 use tr_wait::{Which, encode};
 
 /// Due with the first report that is ready; without one nothing is given.
 pub(crate) fn giving(ready: Option<u64>) -> Checked
-    ensures { result ≡ giving ready }
+    ensures { result ≡ due_report ready }
 {
     match ready {
         Some(number) => Checked::Due(Choice {
@@ -157,7 +157,7 @@ fn consume(step: &mut Step, thread: &Thread)
     if thread.life.is_dead() {
         consume_death(step, thread);
     } else {
-        step.change_thread(thread.id, &Own::WithdrawReport);
+        step.change_thread(thread.id, &ThreadChange::WithdrawReport);
     }
 }
 
@@ -182,6 +182,6 @@ pub fn wait(step: &mut Step, actor: u32, which: Which, r: u64) -> Result<Reply, 
     let reply = waited_thread(&thread, &None);
     step.begin(1)?;
     consume_some(step, &thread);
-    step.settle();
+    step.complete_group_stops();
     Ok(reply)
 }

@@ -15,7 +15,7 @@ use Rattle.tr_sigset.proofs.Members.{in_word-zero}
 use Rattle.tr_lanes.specs.Scans.{is_ready, ready_word, ready_words}
 use Rattle.tr_lanes.proofs.Members.{in_word-ready, some_member}
 use Rattle.tr_pending.specs.declared.instance.Instance.{Instance}
-use Rattle.tr_pending.specs.Waiting.{best_of, is_waiting, rather}
+use Rattle.tr_pending.specs.Waiting.{best_of, is_waiting, preferred_of}
 use Rattle.tr_tracee.specs.declared.life.Life.{Life}
 use Rattle.tr_tracee.specs.declared.life.Life.TheVariants as life
 use Rattle.tr_tracee.specs.declared.thread.Thread.{Thread}
@@ -46,7 +46,7 @@ best_some mask n [] w h = absurd (true≢false (sym w))
 best_some mask n (i ∷ q) w h = go (has mask i.sig) refl (i.sig == n) refl w (λ k. best_some mask n q k h)
   where
     go : (b : Bool) → has mask i.sig ≡ b → (c : Bool) → (i.sig == n) ≡ c → (c || is_waiting n q) ≡ true → (is_waiting n q ≡ true → is_some (best_of mask q) ≡ true)
-        → is_some (if b then best_of mask q else Some (rather i (best_of mask q))) ≡ true
+        → is_some (if b then best_of mask q else Some (preferred_of i (best_of mask q))) ≡ true
     go false e c f k r = refl
     go true e true f k r = absurd (true≢false (sym e ∙ (ap (has mask) (eqb-true i.sig n f) ∙ h)))
     go true e false f k r = r k
@@ -60,7 +60,7 @@ best_which : (mask : SigSet) (q : List Instance) → is_some (best_of mask q) �
 best_which mask [] e = absurd (true≢false (sym e))
 best_which mask (i ∷ q) e = go (has mask i.sig) refl e (best_which mask q)
   where
-    go : (b : Bool) → has mask i.sig ≡ b → is_some (if b then best_of mask q else Some (rather i (best_of mask q))) ≡ true → (is_some (best_of mask q) ≡ true → Open mask q) → Open mask (i ∷ q)
+    go : (b : Bool) → has mask i.sig ≡ b → is_some (if b then best_of mask q else Some (preferred_of i (best_of mask q))) ≡ true → (is_some (best_of mask q) ≡ true → Open mask q) → Open mask (i ∷ q)
     go false f k r = record { signal = i.sig; waits = or_left (i.sig == i.sig) (is_waiting i.sig q) (eq-eqb i.sig i.sig refl); free = f }
     go true f k r = let o = r k in record { signal = o.signal; waits = or_right (i.sig == o.signal) (is_waiting o.signal q) o.waits; free = o.free }
 

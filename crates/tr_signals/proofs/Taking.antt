@@ -16,16 +16,16 @@ use Rattle.tr_model.specs.declared.replies.Refusal.TheVariants.{NotRunning, Busy
 use Rattle.tr_model.specs.declared.rows.Target.{Target}
 use Rattle.tr_model.specs.declared.rows.Target.TheVariants as target
 use Rattle.tr_pending.specs.Waiting.{best_of}
-use Rattle.tr_model.specs.Causes.{can_take_thread, first, nothing_where, thread_then, unless, where_is}
+use Rattle.tr_model.specs.Causes.{can_take_thread, first_cause, nothing_where, refused_if, thread_then, unless}
 use Rattle.tr_model.specs.Journals.{IsSorted, queue_of, taken_by}
 use Rattle.tr_model.specs.Moves.{Work, at, begin, entered_now, hold, holding, instance_in, on_instance, on_thread, pulled}
 use Rattle.tr_model.specs.Preferred.{best_for, check, quiet_or, refused_or, take_choice, taking}
 use Rattle.tr_model.specs.Steps.{takes_instance}
 use Rattle.tr_model.specs.Tables.{Table, queue, thread_of}
-use Rattle.tr_model.specs.Takes.{can_take, choices, numbered, take, take_numbered, taken_from}
+use Rattle.tr_model.specs.Takes.{can_take, choices, take, take_numbered, taken_from, with_number}
 use Rattle.tr_model.proofs.Takable.{best_is_chosen}
 use Rattle.tr_model.specs.declared.replies.Reply.{Reply}
-use Rattle.tr_model.specs.GroupStops.{settle}
+use Rattle.tr_model.specs.GroupStops.{complete_group_stops}
 use Rattle.tr_model.specs.Steps.{Outcome}
 use Rattle.tr_model.specs.Steps as Steps
 use Rattle.std.specs.Prelude.{IfOk}
@@ -60,7 +60,7 @@ pub record IsDue (T : Table) (id n : ℕ) : Type 0 where
   pub number : instance.n ≡ n
 
 abbrev answer : Table → Option Thread → Result Checked Refusal
-answer T o = refused_or (first (thread_then o (λ t. unless (is_free t.life) NotRunning ∷ where_is (has_mark t) Busy ∷ []))) (quiet_or (nothing_where (not (can_take_thread T o))) (take_choice T o))
+answer T o = refused_or (first_cause (thread_then o (λ t. unless (is_free t.life) NotRunning ∷ refused_if (has_mark t) Busy ∷ []))) (quiet_or (nothing_where (not (can_take_thread T o))) (take_choice T o))
 
 chosen : Result Checked Refusal → Option ℕ
 chosen (Ok (Due c)) = c.instance
@@ -83,7 +83,7 @@ is_due T a id n e = go (thread_of T id) refl e
     with_best t f g (Some i) h true q = record { thread = t; instance = i; there = f; free = g; best = h; number = some_same i.n n (ap chosen q) }
     with_best t f g (Some i) h false q = absurd (none_some n (ap chosen q))
 
-    with_thread : (t : Thread) → thread_of T id ≡ Some t → (b m : Bool) → is_free t.life ≡ b → refused_or (first (unless b NotRunning ∷ where_is m Busy ∷ [])) (quiet_or (nothing_where (not (can_take T t))) (taking (best_for T t))) ≡ Ok (Due (takes_instance n)) → IsDue T id n
+    with_thread : (t : Thread) → thread_of T id ≡ Some t → (b m : Bool) → is_free t.life ≡ b → refused_or (first_cause (unless b NotRunning ∷ refused_if m Busy ∷ [])) (quiet_or (nothing_where (not (can_take T t))) (taking (best_for T t))) ≡ Ok (Due (takes_instance n)) → IsDue T id n
     with_thread t f true false g q = with_best t f g (best_for T t) refl (can_take T t) q
     with_thread t f true true g q = absurd (none_some n (ap chosen q))
     with_thread t f false m g q = absurd (none_some n (ap chosen q))
@@ -102,7 +102,7 @@ pub record Took (T : Table) (id n : ℕ) (t : Thread) (i : Instance) : Type 0 wh
 took_is : (T : Table) (id n : ℕ) → IsSorted T.waiting → (d : IsDue T id n) → Took T id n d.thread d.instance
 took_is T id n s d =
     let b = best_is_chosen T d.thread d.instance s d.best in
-    let c : numbered n (choices T d.thread) ≡ Some d.instance = ap (λ k. numbered k (choices T d.thread)) (sym d.number) ∙ b.chosen in
+    let c : with_number n (choices T d.thread) ≡ Some d.instance = ap (λ k. with_number k (choices T d.thread)) (sym d.number) ∙ b.chosen in
     record {
       takes = record { there = ap (thread_of T) (id_found id T.threads d.thread d.there) ∙ d.there; free = d.free; waits = b.waits };
       does = ap (λ o. on_thread o (take_numbered n) (begin T)) d.there ∙ ap (λ o. on_instance o (take d.thread) (begin T)) c;
@@ -126,13 +126,13 @@ took_of T id n t i s d e f =
 
 -- what the model says of the entry
 abbrev pub numbered_outcome : Table → ℕ → ℕ → Outcome
-numbered_outcome T id n = record { reply = Steps.took T (thread_of T id) (instance_in T.waiting n); work = settle (at id (take_numbered n) (begin T)) }
+numbered_outcome T id n = record { reply = Steps.took_reply T (thread_of T id) (instance_in T.waiting n); work = complete_group_stops (at id (take_numbered n) (begin T)) }
 
 joined : (r q : Reply) (v w : Work) → r ≡ q → v ≡ w → ◌≡◌ {A = Outcome} (record { reply = r; work = v }) (record { reply = q; work = w })
 joined r q v w e f = ap (λ (x : Reply). record { reply = x; work = v }) e ∙ ap (λ (x : Work). record { reply = q; work = x }) f
 
 pub outcome_is : (T : Table) (id n : ℕ) (t : Thread) (i : Instance) → thread_of T id ≡ Some t → instance_in T.waiting n ≡ Some i → Took T id n t i → take_outcome T t i ≡ numbered_outcome T id n
-outcome_is T id n t i e f k = joined _ _ _ _ (sym (ap (λ o. Steps.took T o (instance_in T.waiting n)) e ∙ ap (λ o. Steps.took T (Some t) o) f)) (ap settle (sym k.does))
+outcome_is T id n t i e f k = joined _ _ _ _ (sym (ap (λ o. Steps.took_reply T o (instance_in T.waiting n)) e ∙ ap (λ o. Steps.took_reply T (Some t) o) f)) (ap complete_group_stops (sym k.does))
 
 -- a step that came to this came to whatever is equal
 pub comes_as : {E : Type 0} (r : Result Reply E) (o p : Outcome) (q s : Option Target) (u : UnderWay) → o ≡ p → q ≡ s → IfOk r (ComesTo o q u) → IfOk r (ComesTo p s u)

@@ -15,7 +15,7 @@ use Rattle.tr_model.specs.declared.replies.Refusal.{Refusal}
 use Rattle.tr_model.specs.declared.replies.Refusal.TheVariants.{Srch}
 use Rattle.tr_model.specs.declared.replies.Reply.TheVariants.{Nothing}
 use Rattle.tr_model.specs.declared.rows.Target.TheVariants as target
-use Rattle.tr_model.specs.Causes.{first, nothing_where, unless}
+use Rattle.tr_model.specs.Causes.{first_cause, nothing_where, unless}
 use Rattle.tr_model.specs.Journals.{DistinctIds}
 use Rattle.tr_model.specs.Preferred.{best_for, check, or_other, quiet_or, refused_or, take_any_choice, taking_by}
 use Rattle.tr_model.specs.Steps.{no_choice, takes_by}
@@ -55,14 +55,14 @@ answered T None = refl
 answered T (Some t) = refl
 
 abbrev pub answer_in : Table → Bool → Option Thread → Result Checked Refusal
-answer_in T there o = refused_or (first (unless there Srch ∷ [])) (answer_by T o)
+answer_in T there o = refused_or (first_cause (unless there Srch ∷ [])) (answer_by T o)
 
 pub check_is : (T : Table) (a g : ℕ) → check T a (TakeAny g) ≡ answer_in T (is_some (group_of T g)) (find (can_take T) (members T g))
 check_is T a g =
     let ts = members T g in
-    ap (λ b. refused_or (first (unless (is_some (group_of T g)) Srch ∷ [])) (quiet_or (nothing_where (not b)) (take_any_choice T ts))) (any_found (can_take T) ts)
-    ∙ (ap (λ c. refused_or (first (unless (is_some (group_of T g)) Srch ∷ [])) (quiet_or (nothing_where (not (is_some (find (can_take T) ts)))) c)) (choice_found T ts)
-    ∙ ap (refused_or (first (unless (is_some (group_of T g)) Srch ∷ []))) (answered T (find (can_take T) ts)))
+    ap (λ b. refused_or (first_cause (unless (is_some (group_of T g)) Srch ∷ [])) (quiet_or (nothing_where (not b)) (take_any_choice T ts))) (any_found (can_take T) ts)
+    ∙ (ap (λ c. refused_or (first_cause (unless (is_some (group_of T g)) Srch ∷ [])) (quiet_or (nothing_where (not (is_some (find (can_take T) ts)))) c)) (choice_found T ts)
+    ∙ ap (refused_or (first_cause (unless (is_some (group_of T g)) Srch ∷ []))) (answered T (find (can_take T) ts)))
 
 -- What is due
 

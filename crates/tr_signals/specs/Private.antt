@@ -7,22 +7,22 @@ use Rattle.tr_tracee.specs.declared.life.End.TheVariants.{Killed}
 use Rattle.tr_tracee.specs.declared.thread.Thread.{Thread}
 use Rattle.tr_tracee.specs.Lives.{is_free}
 use Rattle.tr_tracee.specs.Marks.{joining, stopped}
-use Rattle.tr_tracee.specs.Threads.{only}
+use Rattle.tr_tracee.specs.Threads.{at_thread}
 use Rattle.tr_model.specs.declared.checked.Checked.{Checked}
 use Rattle.tr_model.specs.declared.replies.Refusal.{Refusal}
 use Rattle.tr_model.specs.declared.replies.Refusal.TheVariants.{Srch}
 use Rattle.tr_model.specs.declared.replies.Reply.TheVariants as reply
 use Rattle.tr_model.specs.declared.rows.Target.{Target}
-use Rattle.tr_model.specs.Causes.{exists_where, first, no_signal, queue_full, unless}
+use Rattle.tr_model.specs.Causes.{exists_where, first_cause, no_signal, queue_full, unless}
 use Rattle.tr_model.specs.Deaths.{begin_death, kill_group}
-use Rattle.tr_model.specs.GroupStops.{settle}
+use Rattle.tr_model.specs.GroupStops.{complete_group_stops}
 use Rattle.tr_model.specs.Moves.{Work, alter, begin, instance_in}
 use Rattle.tr_model.specs.Preferred.{quiet_or, refused_or}
 use Rattle.tr_model.specs.Sends.{send}
 use Rattle.tr_model.specs.Steps.{Outcome, no_choice, sent}
 use Rattle.tr_model.specs.Stops.{at_stop, stop_with}
 use Rattle.tr_model.specs.Tables.{Table, stop_in_effect, thread_of}
-use Rattle.tr_model.specs.Takes.{take, took}
+use Rattle.tr_model.specs.Takes.{did_at_take, take}
 
 -- Sends that processes ask for
 
@@ -32,11 +32,11 @@ is_over_limit T s = is_real_time s && nat_le T.limit (length T.waiting)
 
 -- what a check answers of a send, by whether its target is there
 abbrev pub send_checked : Table → Bool → ℕ → Result Checked Refusal
-send_checked T there s = refused_or (first (no_signal s ∷ unless there Srch ∷ queue_full T s ∷ [])) (quiet_or (exists_where s) no_choice)
+send_checked T there s = refused_or (first_cause (no_signal s ∷ unless there Srch ∷ queue_full T s ∷ [])) (quiet_or (exists_where s) no_choice)
 
 -- what comes of a send
 abbrev pub send_outcome : ℕ → Info → Target → Table → Outcome
-send_outcome s i q T = let w = settle (send s i q (begin T)) in record { reply = sent T w; work = w }
+send_outcome s i q T = let w = complete_group_stops (send s i q (begin T)) in record { reply = sent T w; work = w }
 
 -- Takes
 
@@ -48,7 +48,7 @@ pub record Takes (T : Table) (t : Thread) (i : Instance) : Type 0 where
 
 -- what comes of it
 abbrev pub take_outcome : Table → Thread → Instance → Outcome
-take_outcome T t i = record { reply = reply.Took t.id i (took T t i); work = settle (take t i (begin T)) }
+take_outcome T t i = record { reply = reply.Took t.id i (did_at_take T t i); work = complete_group_stops (take t i (begin T)) }
 
 -- by a signal whose default action ends the group
 abbrev pub die_of : ℕ → ℕ → Work → Work
@@ -58,8 +58,8 @@ die_of g s w = if s == 9 then kill_group g w else begin_death g (Killed s) false
 
 -- it takes part, and shows the stop in effect
 abbrev pub halt_traced : Thread → Work → Work
-halt_traced t w = at_stop (stop_in_effect w.table t.group) (stop_with t) (alter (only t.id joining) w)
+halt_traced t w = at_stop (stop_in_effect w.table t.group) (stop_with t) (alter (at_thread t.id joining) w)
 
 -- it takes part, and stops
 abbrev pub halt_untraced : Thread → Work → Work
-halt_untraced t w = alter (only t.id stopped) (alter (only t.id joining) w)
+halt_untraced t w = alter (at_thread t.id stopped) (alter (at_thread t.id joining) w)

@@ -86,6 +86,6 @@ pub fn set_action(
     let signal = Signal::new(sig).unwrap();
     step.begin(1)?;
     set_at(step, tid, signal, how);
-    step.settle();
+    step.complete_group_stops();
     Ok(Reply::Done)
 }

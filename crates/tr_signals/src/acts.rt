@@ -11,7 +11,7 @@ use tr_group::Action;
 use tr_model::Did;
 use tr_sigset::{Base, Signal};
 use tr_steps::Step;
-use tr_table::Own;
+use tr_table::ThreadChange;
 use tr_tracee::{End, Thread};
 
 /// What an action makes of a signal.
@@ -55,7 +55,7 @@ pub fn act(step: &mut Step, thread: &Thread, signal: Signal, came: bool, did: Di
     ensures { Moves (act thread.now signal came did) 2 step.old step.new }
 {
     match did {
-        Did::Caught => step.change_thread(thread.id, &Own::Pausing(false)),
+        Did::Caught => step.change_thread(thread.id, &ThreadChange::Pausing(false)),
         Did::Stopping => initiate_unless(step, came, thread.group, signal),
         Did::Dying => die_of(step, thread.group, signal),
         Did::Ignored | Did::Reported => {}

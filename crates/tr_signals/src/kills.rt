@@ -67,7 +67,7 @@ fn send_numbered(step: &mut Step, sig: u8, info: &Info, target: Target) -> Resul
     step.begin(3)?;
     let n = step.next_number();
     step.send(signal, info, target);
-    step.settle();
+    step.complete_group_stops();
     let fate = fate_in(step.ended(), n);
     Ok(Reply::Sent { n, fate })
 }

@@ -12,7 +12,7 @@ use std::alloc::AllocError;
 use tr_model::{Checked, Refusal, Reply};
 use tr_sigset::SigSet;
 use tr_steps::Step;
-use tr_table::{Own, Table};
+use tr_table::{Table, ThreadChange};
 
 /// Whether a thread's setting of its mask is refused or due. ESRCH comes where there is no such thread, then NotRunning
 /// and Busy as for each operation of a thread's own.
@@ -29,7 +29,7 @@ pub fn mask(step: &mut Step, actor: u32, tid: u32, set: SigSet) -> Result<Reply,
     ensures did { IfOk result (IsStepOf step.old.work.table (entry actor (Mask tid set)) step.new) }
     ensures err { OnErr result (step.new.work.table ≡ step.old.work.table) }
 {
-    change_own(step, tid, &Own::Mask(set))
+    change_own(step, tid, &ThreadChange::Mask(set))
 }
 
 /// Whether a thread's pause(2) is refused or due, as for each operation of a thread's own.
@@ -46,5 +46,5 @@ pub fn pause(step: &mut Step, actor: u32, tid: u32) -> Result<Reply, AllocError>
     ensures did { IfOk result (IsStepOf step.old.work.table (entry actor (Pause tid)) step.new) }
     ensures err { OnErr result (step.new.work.table ≡ step.old.work.table) }
 {
-    change_own(step, tid, &Own::Pausing(true))
+    change_own(step, tid, &ThreadChange::Pausing(true))
 }

@@ -1,7 +1,7 @@
 //! What a thread may do of its own, and when.
 
 ghost use Rattle.std.specs.Prelude.{◌≡◌, IfOk, None, OnErr};
-ghost use Rattle.tr_model.specs.Causes.{first, script};
+ghost use Rattle.tr_model.specs.Causes.{first_cause, script};
 ghost use Rattle.tr_steps.specs.UnderWay.{ComesTo};
 ghost use Rattle.tr_signals.specs.Scripts.{own_outcome, script_checked};
 
@@ -9,12 +9,12 @@ use crate::takes::can_take;
 use std::alloc::AllocError;
 use tr_model::{Checked, Choice, Refusal, Reply};
 use tr_steps::Step;
-use tr_table::{Own, Table};
+use tr_table::{Table, ThreadChange};
 use tr_tracee::Thread;
 
 /// Why a thread can't do an operation of its own: it doesn't run, or has a mark to serve or a signal to take first.
 pub fn script(table: &Table, thread: &Thread) -> Option<Refusal>
-    ensures { result ≡ first (script table.now.table thread.now) }
+    ensures { result ≡ first_cause (script table.now.table thread.now) }
 {
     if !thread.life.is_free() || thread.pausing {
         return Some(Refusal::NotRunning);
@@ -41,12 +41,12 @@ pub fn check_script(table: &Table, tid: u32) -> Result<Checked, Refusal>
 
 /// An entry that changes the record of one thread. Where memory is refused, or the numbers are used up, nothing has
 /// changed.
-pub fn change_own(step: &mut Step, tid: u32, change: &Own) -> Result<Reply, AllocError>
+pub fn change_own(step: &mut Step, tid: u32, change: &ThreadChange) -> Result<Reply, AllocError>
     ensures did { IfOk result (ComesTo (own_outcome tid change.now step.old.work.table) None step.new) }
     ensures err { OnErr result (step.new.work.table ≡ step.old.work.table) }
 {
     step.begin(0)?;
     step.change_thread(tid, change);
-    step.settle();
+    step.complete_group_stops();
     Ok(Reply::Done)
 }

@@ -17,7 +17,7 @@ use std::alloc::AllocError;
 use tr_model::{Checked, Choice, Refusal, Reply};
 use tr_sigset::Signal;
 use tr_steps::Step;
-use tr_table::{Own, Table};
+use tr_table::{Table, ThreadChange};
 use tr_tracee::{Stop, Thread};
 use tr_wait::StopSig;
 
@@ -55,15 +55,15 @@ fn halt_traced(step: &mut Step, thread: &Thread)
     ensures { Moves (halt_traced thread.now) 1 step.old step.new }
 {
     let signal = step.stop_now(thread.group);
-    step.change_thread(thread.id, &Own::Join);
+    step.change_thread(thread.id, &ThreadChange::Join);
     stop_at(step, thread, signal);
 }
 
 fn halt_untraced(step: &mut Step, thread: &Thread)
     ensures { Moves (halt_untraced thread.now) 0 step.old step.new }
 {
-    step.change_thread(thread.id, &Own::Join);
-    step.change_thread(thread.id, &Own::Stop);
+    step.change_thread(thread.id, &ThreadChange::Join);
+    step.change_thread(thread.id, &ThreadChange::Stop);
 }
 
 fn halt_thread(step: &mut Step, thread: &Thread)
@@ -111,7 +111,7 @@ pub fn halt(step: &mut Step, actor: u32, tid: u32) -> Result<Reply, AllocError>
 {
     step.begin(1)?;
     halt_at(step, tid);
-    step.settle();
+    step.complete_group_stops();
     Ok(Reply::Done)
 }
 
@@ -124,7 +124,7 @@ fn trap_in_stop(step: &mut Step, thread: &Thread, signal: Option<Signal>)
     match signal {
         None => step.enter(thread.id, &Stop::Event(StopSig::Trap)),
         Some(signal) => {
-            step.change_thread(thread.id, &Own::Join);
+            step.change_thread(thread.id, &ThreadChange::Join);
             step.enter(thread.id, &Stop::Event(StopSig::of(signal)));
         }
     }
@@ -171,7 +171,7 @@ pub fn trap(step: &mut Step, actor: u32, tid: u32) -> Result<Reply, AllocError>
 {
     step.begin(1)?;
     trap_by_id(step, tid);
-    step.settle();
+    step.complete_group_stops();
     Ok(Reply::Done)
 }
 

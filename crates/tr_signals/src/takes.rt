@@ -8,7 +8,7 @@ ghost use Rattle.tr_model.specs.declared.rows.Target.TheVariants as target;
 ghost use Rattle.tr_model.specs.Preferred.{best_for, check};
 ghost use Rattle.tr_model.specs.Steps.{takes_instance};
 ghost use Rattle.tr_model.specs.Tables.{queue};
-ghost use Rattle.tr_model.specs.Takes.{act, can_take, deliver, take, taken_from, took};
+ghost use Rattle.tr_model.specs.Takes.{act, can_take, deliver, did_at_take, take, taken_from};
 ghost use Rattle.tr_steps.specs.UnderWay.{ComesTo, IsStepOf, Moves};
 ghost use Rattle.tr_signals.specs.Private.{Takes, take_outcome};
 
@@ -72,7 +72,7 @@ pub fn check_take(table: &Table, tid: u32) -> Result<Checked, Refusal>
 
 /// What a thread does with an instance that it takes: a tracee reports it, and others act by the action.
 fn did(table: &Table, thread: &Thread, instance: &Instance) -> Did
-    ensures { result ≡ took table.now.table thread.now instance.now }
+    ensures { result ≡ did_at_take table.now.table thread.now instance.now }
 {
     if thread.is_traced() {
         Did::Reported
@@ -91,7 +91,7 @@ fn deliver_to(step: &mut Step, thread: &Thread, instance: &Instance, did: Did)
 
 fn take_instance(step: &mut Step, thread: &Thread, instance: &Instance, did: Did)
     requires room { 2 ≤ step.old.room }
-    requires did { did ≡ took step.old.work.table thread.now instance.now }
+    requires did { did ≡ did_at_take step.old.work.table thread.now instance.now }
     requires takes { Takes step.old.work.table thread.now instance.now }
     ensures { Moves (take thread.now instance.now) 2 step.old step.new }
 {
@@ -129,7 +129,7 @@ pub(crate) fn take_due(
     step.begin(2)?;
     step.take_from(queue);
     take_instance(step, thread, instance, did);
-    step.settle();
+    step.complete_group_stops();
     Ok(Reply::Took {
         tid: thread.id,
         inst: *instance,

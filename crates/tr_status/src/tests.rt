@@ -7,7 +7,7 @@ use tr_group::Action;
 use tr_model::Target;
 use tr_pending::Info;
 use tr_sigset::{SigSet, Signal};
-use tr_table::{GroupStart, Items, Own, Start, Table};
+use tr_table::{GroupStart, Items, Start, Table, ThreadChange};
 
 /// Takes at most `most` bytes a put, and fails at each put but the first `puts`.
 #[derive(Drop)]
@@ -137,7 +137,7 @@ fn an_absent_thread_has_no_status(rt: HostRuntime) -> Result<(), Fail> {
 #[test]
 fn a_pausing_thread_sleeps(rt: HostRuntime) -> Result<(), Fail> {
     let mut table = table(rt.alloc())?;
-    table.change_thread(11, &Own::Pausing(true));
+    table.change_thread(11, &ThreadChange::Pausing(true));
     let mut page = empty_page(rt.alloc(), 100, 4);
     assert!(rt; write_status_of(&table, 11, &mut page).is_err());
     let text = b"Name:\tdemo\nState:\tS (sleeping)";

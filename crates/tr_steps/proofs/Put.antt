@@ -10,9 +10,9 @@ use Rattle.tr_tracee.specs.declared.thread.Thread.{Thread}
 use Rattle.tr_tracee.specs.Lives.{held}
 use Rattle.tr_tracee.specs.Stops.{listening, listening_life, restarted, restarted_life}
 use Rattle.tr_model.specs.declared.fates.Fate.{Fate}
-use Rattle.tr_model.specs.Moves.{changed, endings, ends}
+use Rattle.tr_model.specs.Moves.{changed, ended_by_change, ended_hold}
 use Rattle.tr_model.specs.Tables.{Table, thread_in, thread_of}
-use Rattle.tr_table.specs.Held.{helds, one}
+use Rattle.tr_table.specs.Held.{bool_to_nat, held_count}
 
 -- a look-up has one answer
 pub same_thread : (a b : Thread) → Some a ≡ Some b → a ≡ b
@@ -28,15 +28,15 @@ changed_put id f (x ∷ xs) t e = go (x.id == id) e (changed_put id f xs t)
     go true q r = ap (λ z. f z ∷ xs) (sym (same_thread x t q))
     go false q r = ap (λ zs. x ∷ zs) (r q)
 
-pub helds_put : (id : ℕ) (f : Thread → Thread) (ts : List Thread) (t : Thread) → thread_in ts id ≡ Some t → helds (changed id f ts) + one (is_some (held t.life)) ≡ helds ts + one (is_some (held (f t).life))
+pub helds_put : (id : ℕ) (f : Thread → Thread) (ts : List Thread) (t : Thread) → thread_in ts id ≡ Some t → held_count (changed id f ts) + bool_to_nat (is_some (held t.life)) ≡ held_count ts + bool_to_nat (is_some (held (f t).life))
 helds_put id f [] t e = absurd (none e)
   where
     none : None ≡ Some t → ⊥
     none q = cc
 helds_put id f (x ∷ xs) t e = go (x.id == id) e (helds_put id f xs t)
   where
-    go : (b : Bool) → (if b then Some x else thread_in xs id) ≡ Some t → (thread_in xs id ≡ Some t → helds (changed id f xs) + one (is_some (held t.life)) ≡ helds xs + one (is_some (held (f t).life)))
-        → helds (if b then f x ∷ xs else x ∷ changed id f xs) + one (is_some (held t.life)) ≡ (one (is_some (held x.life)) + helds xs) + one (is_some (held (f t).life))
+    go : (b : Bool) → (if b then Some x else thread_in xs id) ≡ Some t → (thread_in xs id ≡ Some t → held_count (changed id f xs) + bool_to_nat (is_some (held t.life)) ≡ held_count xs + bool_to_nat (is_some (held (f t).life)))
+        → held_count (if b then f x ∷ xs else x ∷ changed id f xs) + bool_to_nat (is_some (held t.life)) ≡ (bool_to_nat (is_some (held x.life)) + held_count xs) + bool_to_nat (is_some (held (f t).life))
     go true q r = rw (sym (same_thread x t q)) (omega arith)
     go false q r = let h = r q in omega (arith, h)
 
@@ -45,10 +45,10 @@ restarted_holds_none (life.InStop (stop.Exit w)) = refl
 restarted_holds_none (life.InStop _) = refl
 restarted_holds_none _ = refl
 
-pub helds_restarted : (ts : List Thread) (t : Thread) → thread_in ts t.id ≡ Some t → helds (changed t.id restarted ts) + one (is_some (held t.life)) ≡ helds ts
-helds_restarted ts t e = let h = helds_put t.id restarted ts t e in let q : one (is_some (held (restarted_life t.life))) ≡ 0 = rw (restarted_holds_none t.life) refl in omega (arith, h, q)
+pub helds_restarted : (ts : List Thread) (t : Thread) → thread_in ts t.id ≡ Some t → held_count (changed t.id restarted ts) + bool_to_nat (is_some (held t.life)) ≡ held_count ts
+helds_restarted ts t e = let h = helds_put t.id restarted ts t e in let q : bool_to_nat (is_some (held (restarted_life t.life))) ≡ 0 = rw (restarted_holds_none t.life) refl in omega (arith, h, q)
 
-pub ends_restarted : (fate : Fate) (t : Thread) → ends fate restarted t ≡ endings fate (held t.life) None
+pub ends_restarted : (fate : Fate) (t : Thread) → ended_by_change fate restarted t ≡ ended_hold fate (held t.life) None
 ends_restarted fate t = rw (restarted_holds_none t.life) refl
 
 listening_holds : (l : Life) → held (listening_life l) ≡ held l
@@ -56,19 +56,19 @@ listening_holds (life.InStop (stop.Event x)) = refl
 listening_holds (life.InStop _) = refl
 listening_holds _ = refl
 
-no_endings : (fate : Fate) (o : Option Instance) → endings fate o o ≡ []
+no_endings : (fate : Fate) (o : Option Instance) → ended_hold fate o o ≡ []
 no_endings fate None = refl
 no_endings fate (Some i) = refl
 
 -- a thread that listens gives up nothing
-pub ends_listening : (fate : Fate) (t : Thread) → ends fate listening t ≡ []
+pub ends_listening : (fate : Fate) (t : Thread) → ended_by_change fate listening t ≡ []
 ends_listening fate t = rw (listening_holds t.life) (no_endings fate (held t.life))
 
-pub helds_listening : (ts : List Thread) (t : Thread) → thread_in ts t.id ≡ Some t → helds (changed t.id listening ts) ≡ helds ts
-helds_listening ts t e = let h = helds_put t.id listening ts t e in let q : one (is_some (held (listening_life t.life))) ≡ one (is_some (held t.life)) = rw (listening_holds t.life) refl in omega (arith, h, q)
+pub helds_listening : (ts : List Thread) (t : Thread) → thread_in ts t.id ≡ Some t → held_count (changed t.id listening ts) ≡ held_count ts
+helds_listening ts t e = let h = helds_put t.id listening ts t e in let q : bool_to_nat (is_some (held (listening_life t.life))) ≡ bool_to_nat (is_some (held t.life)) = rw (listening_holds t.life) refl in omega (arith, h, q)
 
 -- a thread that comes last and holds nothing
-pub helds_added : (t : Thread) (ts : List Thread) → held t.life ≡ None → helds (ts ++ t ∷ []) ≡ helds ts
+pub helds_added : (t : Thread) (ts : List Thread) → held t.life ≡ None → held_count (ts ++ t ∷ []) ≡ held_count ts
 helds_added t [] e = rw e refl
 helds_added t (x ∷ xs) e = omega (arith, helds_added t xs e)
 

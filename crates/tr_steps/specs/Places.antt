@@ -1,7 +1,7 @@
 -- How a step is seen, and the places that it has reserved.
 use Rattle.std.specs.Prelude.{ℕ, ◌+◌, ◌≤◌, ◌<◌, ◌^◌, length, vec_len, vec_capacity}
 use Rattle.tr_model.specs.Tables.{Table}
-use Rattle.tr_table.specs.Held.{helds}
+use Rattle.tr_table.specs.Held.{held_count}
 use Rattle.tr_steps.specs.UnderWay.{UnderWay}
 use Rattle.tr_steps.specs.declared.steps.Step.TheInside.{Inside}
 
@@ -20,7 +20,7 @@ CanNumber T n = (T.accepted + n < 2 ^ 64) × (T.raised + n < 2 ^ 64)
 -- A place for each instance that can still end, and for each move. What ends leaves a queue or a thread that held it,
 -- so this stays as it is while instances end.
 pub record Places (s : Inside) : Type 0 where
-  pub ended : (vec_len s.ended + (length s.table.table.waiting + helds s.table.table.threads)) + s.room ≤ vec_capacity s.ended
+  pub ended : (vec_len s.ended + (length s.table.table.waiting + held_count s.table.table.threads)) + s.room ≤ vec_capacity s.ended
   pub raises : vec_len s.raises + s.room ≤ vec_capacity s.raises
   pub dying : vec_len s.dying + s.room ≤ vec_capacity s.dying
   pub killed : vec_len s.killed + s.room ≤ vec_capacity s.killed

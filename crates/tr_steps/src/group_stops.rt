@@ -3,7 +3,7 @@
 ghost use Rattle.std.specs.Prelude.{◌≡◌, ◌+◌, ◌≤◌, not, ◌&&◌, length};
 ghost use Rattle.tr_wait.specs.declared.status.Status.TheVariants as status;
 ghost use Rattle.tr_group.specs.GroupStops.{is_complete, is_stopping};
-ghost use Rattle.tr_model.specs.GroupStops.{continue_all, ended_stop, fill_stop, initiate, note_stop, settle, settle_group};
+ghost use Rattle.tr_model.specs.GroupStops.{complete_group_stop, complete_group_stops, complete_stop, continue_all, ended_stop, initiate, note_stop};
 ghost use Rattle.tr_model.specs.Moves.{note, only_group, regroup, when};
 ghost use Rattle.tr_model.specs.Tables.{group_of, has_stop_mark, has_traced, stop_in_effect, stop_of};
 ghost use Rattle.tr_steps.specs.UnderWay.{Moves};
@@ -27,7 +27,7 @@ impl Step {
         self.table().stop_of(tgid).is_complete() && !self.table().has_traced(tgid)
     }
 
-    fn is_full(&self, tgid: u32) -> bool
+    fn can_complete(&self, tgid: u32) -> bool
         ensures { result ≡ (is_stopping (stop_of (group_of self.now.work.table tgid)) && not (has_stop_mark self.now.work.table tgid)) }
     {
         self.table().stop_of(tgid).is_stopping() && !self.table().has_stop_mark(tgid)
@@ -76,45 +76,45 @@ impl Step {
         }
     }
 
-    fn fill_stop(&mut self, tgid: u32)
+    fn complete_stop(&mut self, tgid: u32)
         requires { 1 ≤ self.old.room }
-        ensures { Moves (fill_stop tgid) 1 self.old self.new }
+        ensures { Moves (complete_stop tgid) 1 self.old self.new }
     {
         let stop = self.stop_now(tgid);
         self.change_group(tgid, &GroupChange::Complete);
         self.note_stop(tgid, stop);
     }
 
-    fn settle_group(&mut self, tgid: u32)
+    fn complete_group_stop(&mut self, tgid: u32)
         requires { 1 ≤ self.old.room }
-        ensures { Moves (settle_group tgid) 1 self.old self.new }
+        ensures { Moves (complete_group_stop tgid) 1 self.old self.new }
     {
-        if self.is_full(tgid) {
-            self.fill_stop(tgid);
+        if self.can_complete(tgid) {
+            self.complete_stop(tgid);
         }
     }
 
     /// The last change of a step: a group-stop whose threads have all stopped is complete.
     #[tactic(auto, using(tr_table::proofs::Settling::none_stopping))]
-    pub fn settle(&mut self)
+    pub fn complete_group_stops(&mut self)
         requires { length self.old.work.table.groups ≤ self.old.room }
-        ensures work { self.new.work ≡ settle self.old.work }
+        ensures work { self.new.work ≡ complete_group_stops self.old.work }
         ensures taken_from { self.new.taken_from ≡ self.old.taken_from }
     {
         if self.table.stopping() > 0 {
-            self.settle_each();
+            self.complete_each_group_stop();
         }
     }
 
-    fn settle_each(&mut self)
+    fn complete_each_group_stop(&mut self)
         requires { length self.old.work.table.groups ≤ self.old.room }
-        ensures work { self.new.work ≡ settle self.old.work }
+        ensures work { self.new.work ≡ complete_group_stops self.old.work }
         ensures taken_from { self.new.taken_from ≡ self.old.taken_from }
     {
         let count = self.table().group_count();
         for i in 0..count {
             let tgid = self.table().tgid_at(i);
-            self.settle_group(tgid);
+            self.complete_group_stop(tgid);
         }
     }
 }

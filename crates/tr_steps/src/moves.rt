@@ -2,19 +2,19 @@
 
 ghost use Rattle.std.specs.Prelude.{◌≡◌, ◌≤◌, ◌<◌, ◌+◌, ◌++◌, ◌==◌, None, OnErr, OnOk, Some, false, is_some, length, vec_len, vec_capacity};
 ghost use Rattle.tr_model.specs.declared.fates.Fate.TheVariants.{Flushed};
-ghost use Rattle.tr_model.specs.Moves.{accept_as, added, alter, become, drop_empty, end_waiting, endings, enqueue, enter, entered_now, note, only_group, pulled, raise, regroup, remove_dead, report_death, take_place, tell_dying, tell_killed};
+ghost use Rattle.tr_model.specs.Moves.{accept_as, added, alter, become, drop_empty, end_waiting, ended_hold, enqueue, enter, entered_now, note, only_group, pulled, raise, regroup, remove_dead, report_death, take_place, tell_dying, tell_killed};
 ghost use Rattle.tr_model.specs.Requests.{listen, resume};
 ghost use Rattle.tr_model.specs.Tables.{members, same_target, thread_of};
 ghost use Rattle.tr_model.specs.Sends.{flush_in};
 ghost use Rattle.tr_model.specs.Takes.{deliver};
 ghost use Rattle.tr_tracee.specs.declared.life.Stop.TheVariants as stop;
-ghost use Rattle.tr_tracee.specs.Ends.{broken, broken_by_exec};
+ghost use Rattle.tr_tracee.specs.Ends.{begun_to_leave, begun_to_leave_by_exec};
 ghost use Rattle.tr_tracee.specs.Lives.{held};
 ghost use Rattle.tr_tracee.specs.Marks.{cont_noted, marked};
-ghost use Rattle.tr_tracee.specs.Threads.{only, throughout, tracer_of};
+ghost use Rattle.tr_tracee.specs.Threads.{at_group, at_thread, tracer_of};
 ghost use Rattle.tr_group.specs.Members.{continued_by};
-ghost use Rattle.tr_table.specs.Changes.{flushes, own, regrouped};
-ghost use Rattle.tr_table.specs.Held.{one};
+ghost use Rattle.tr_table.specs.Changes.{flushes, group_changed_by, thread_changed_by};
+ghost use Rattle.tr_table.specs.Held.{bool_to_nat};
 ghost use Rattle.tr_steps.specs.UnderWay.{Moves};
 
 use crate::steps::Step;
@@ -22,7 +22,7 @@ use std::alloc::AllocError;
 use tr_model::{Ending, Fate, Raise, Target};
 use tr_pending::{Info, Instance};
 use tr_sigset::Signal;
-use tr_table::{Flush, GroupChange, Own};
+use tr_table::{Flush, GroupChange, ThreadChange};
 use tr_tracee::{End, Stop, Thread};
 use tr_wait::Status;
 
@@ -30,7 +30,7 @@ impl Step {
     /// Each live thread of a group that takes no part in the group-stop yet gets the stop mark.
     #[tactic(auto, using(crate::proofs::Helds::helds_marked))]
     pub fn mark_all(&mut self, tgid: u32)
-        ensures { Moves (alter (throughout tgid marked)) 0 self.old self.new }
+        ensures { Moves (alter (at_group tgid marked)) 0 self.old self.new }
     {
         self.table.mark_all(tgid);
     }
@@ -38,7 +38,7 @@ impl Step {
     /// Each signal-delivery-stop of a group notes that a SIGCONT came.
     #[tactic(auto, using(crate::proofs::Helds::helds_cont_noted))]
     pub fn note_cont(&mut self, tgid: u32)
-        ensures { Moves (alter (throughout tgid cont_noted)) 0 self.old self.new }
+        ensures { Moves (alter (at_group tgid cont_noted)) 0 self.old self.new }
     {
         self.table.note_cont(tgid);
     }
@@ -46,15 +46,15 @@ impl Step {
     /// A SIGCONT comes to the threads of a group; `in_effect` says whether a group-stop is in effect.
     #[tactic(auto, using(crate::proofs::Helds::helds_continued))]
     pub fn continue_threads(&mut self, tgid: u32, in_effect: bool)
-        ensures { Moves (alter (throughout tgid (continued_by in_effect))) 0 self.old self.new }
+        ensures { Moves (alter (at_group tgid (continued_by in_effect))) 0 self.old self.new }
     {
         self.table.continue_threads(tgid, in_effect);
     }
 
     /// What happens to the record of one thread.
     #[tactic(auto, using(crate::proofs::Helds::helds_own))]
-    pub fn change_thread(&mut self, id: u32, change: &Own)
-        ensures { Moves (alter (only id (own change.now))) 0 self.old self.new }
+    pub fn change_thread(&mut self, id: u32, change: &ThreadChange)
+        ensures { Moves (alter (at_thread id (thread_changed_by change.now))) 0 self.old self.new }
     {
         self.table.change_thread(id, change);
     }
@@ -62,7 +62,7 @@ impl Step {
     /// What happens to the record of one group.
     #[tactic(auto, using(crate::proofs::Groups::as_many_regrouped))]
     pub fn change_group(&mut self, tgid: u32, change: &GroupChange)
-        ensures { Moves (regroup (only_group tgid (regrouped change.now))) 0 self.old self.new }
+        ensures { Moves (regroup (only_group tgid (group_changed_by change.now))) 0 self.old self.new }
     {
         self.table.change_group(tgid, change);
     }
@@ -207,7 +207,7 @@ impl Step {
     /// Each thread of a group that isn't dead begins to leave, and what they held is flushed.
     pub fn leave(&mut self, tgid: u32, kill: bool, end: &End)
         requires { 1 ≤ self.old.room }
-        ensures { Moves (become Flushed (throughout tgid (broken kill end.now))) 0 self.old self.new }
+        ensures { Moves (become Flushed (at_group tgid (begun_to_leave kill end.now))) 0 self.old self.new }
     {
         self.table.leave(tgid, kill, end, &mut self.ended);
     }
@@ -216,7 +216,7 @@ impl Step {
     /// and what they held is flushed.
     pub fn leave_for_exec(&mut self, tgid: u32, id: u32, end: &End)
         requires { 1 ≤ self.old.room }
-        ensures { Moves (become Flushed (throughout tgid (broken_by_exec id end.now))) 0 self.old self.new }
+        ensures { Moves (become Flushed (at_group tgid (begun_to_leave_by_exec id end.now))) 0 self.old self.new }
     {
         self.table.leave_for_exec(tgid, id, end, &mut self.ended);
     }
@@ -322,9 +322,9 @@ fn tracer_of(thread: &Thread) -> Option<u32>
 
 /// Appends the instance that a stop held, if it held one, with its fate.
 fn end_held(ended: &mut Vec<Ending>, held: &Option<Instance>, fate: Fate)
-    requires { vec_len ended.old + one (is_some held.now) ≤ vec_capacity ended.old }
-    ensures items { ended.new.items ≡ ended.old.items ++ endings fate held.now None }
-    ensures len { vec_len ended.new ≡ vec_len ended.old + one (is_some held.now) }
+    requires { vec_len ended.old + bool_to_nat (is_some held.now) ≤ vec_capacity ended.old }
+    ensures items { ended.new.items ≡ ended.old.items ++ ended_hold fate held.now None }
+    ensures len { vec_len ended.new ≡ vec_len ended.old + bool_to_nat (is_some held.now) }
     ensures capacity { vec_capacity ended.new ≡ vec_capacity ended.old }
 {
     if let Some(held) = held {

@@ -7,8 +7,8 @@ use Rattle.tr_model.specs.declared.rows.Group.{Group}
 use Rattle.tr_model.specs.Journals.{occurs}
 use Rattle.tr_model.specs.Moves.{group_changed, only_group}
 use Rattle.tr_model.specs.Tables.{group_in}
-use Rattle.tr_table.specs.Changes.{regrouped}
-use Rattle.tr_table.specs.Held.{one}
+use Rattle.tr_table.specs.Changes.{group_changed_by}
+use Rattle.tr_table.specs.Held.{bool_to_nat}
 use Rattle.tr_table.specs.Private.{IsGroups, stopping_in, tgids_of}
 use Rattle.tr_table.specs.declared.groups.GroupChange.{GroupChange}
 use Rattle.tr_table.specs.declared.groups.GroupChange.TheVariants as change
@@ -43,23 +43,23 @@ new_id_at xs i d h once =
 
 -- a record is written
 
-counted_written : (xs : List Group) (i : ℕ) (d y : Group) → i < length xs → stopping_in (set xs i y) + one (is_stopping (get_or xs i d).group_stop) ≡ stopping_in xs + one (is_stopping y.group_stop)
+counted_written : (xs : List Group) (i : ℕ) (d y : Group) → i < length xs → stopping_in (set xs i y) + bool_to_nat (is_stopping (get_or xs i d).group_stop) ≡ stopping_in xs + bool_to_nat (is_stopping y.group_stop)
 counted_written [] i d y h = absurd (omega (arith, h))
 counted_written (x ∷ xs) zero d y h = go (is_stopping x.group_stop) (is_stopping y.group_stop)
   where
     rest : List Group
     rest = filter (λ z. is_stopping z.group_stop) xs
 
-    go : (a b : Bool) → length (cond b (y ∷ rest) rest) + one a ≡ length (cond a (x ∷ rest) rest) + one b
+    go : (a b : Bool) → length (cond b (y ∷ rest) rest) + bool_to_nat a ≡ length (cond a (x ∷ rest) rest) + bool_to_nat b
     go true true = omega arith
     go true false = omega arith
     go false true = omega arith
     go false false = omega arith
 counted_written (x ∷ xs) (suc i) d y h = go (is_stopping x.group_stop) (counted_written xs i d y (omega (arith, h)))
   where
-    go : (a : Bool) → stopping_in (set xs i y) + one (is_stopping (get_or xs i d).group_stop) ≡ stopping_in xs + one (is_stopping y.group_stop)
-        → length (cond a (x ∷ filter (λ z. is_stopping z.group_stop) (set xs i y)) (filter (λ z. is_stopping z.group_stop) (set xs i y))) + one (is_stopping (get_or xs i d).group_stop)
-        ≡ length (cond a (x ∷ filter (λ z. is_stopping z.group_stop) xs) (filter (λ z. is_stopping z.group_stop) xs)) + one (is_stopping y.group_stop)
+    go : (a : Bool) → stopping_in (set xs i y) + bool_to_nat (is_stopping (get_or xs i d).group_stop) ≡ stopping_in xs + bool_to_nat (is_stopping y.group_stop)
+        → length (cond a (x ∷ filter (λ z. is_stopping z.group_stop) (set xs i y)) (filter (λ z. is_stopping z.group_stop) (set xs i y))) + bool_to_nat (is_stopping (get_or xs i d).group_stop)
+        ≡ length (cond a (x ∷ filter (λ z. is_stopping z.group_stop) xs) (filter (λ z. is_stopping z.group_stop) xs)) + bool_to_nat (is_stopping y.group_stop)
     go true r = omega (arith, r)
     go false r = omega (arith, r)
 
@@ -68,7 +68,7 @@ ids_written [] i d y e h = refl
 ids_written (x ∷ xs) zero d y e h = ap (λ (n : ℕ). n ∷ tgids_of xs) e
 ids_written (x ∷ xs) (suc i) d y e h = ap (λ (ns : List ℕ). x.tgid ∷ ns) (ids_written xs i d y e (omega (arith, h)))
 
-pub written : (xs : List Group) (ids : List ℕ) (n m i : ℕ) (d y : Group) → IsGroups xs ids n → i < length xs → y.tgid ≡ (get_or xs i d).tgid → m + one (is_stopping (get_or xs i d).group_stop) ≡ n + one (is_stopping y.group_stop) → IsGroups (set xs i y) ids m
+pub written : (xs : List Group) (ids : List ℕ) (n m i : ℕ) (d y : Group) → IsGroups xs ids n → i < length xs → y.tgid ≡ (get_or xs i d).tgid → m + bool_to_nat (is_stopping (get_or xs i d).group_stop) ≡ n + bool_to_nat (is_stopping y.group_stop) → IsGroups (set xs i y) ids m
 written xs ids n m i d y h k e c = record {
   indexed = h.indexed ∙ sym (ids_written xs i d y e k);
   counted = omega (arith, c, h.counted, counted_written xs i d y k);
@@ -84,20 +84,20 @@ few_stopping (x ∷ xs) = go (is_stopping x.group_stop) (few_stopping xs)
     go false r = omega (arith, r)
 
 -- the one at a place is counted
-pub one_counted : (xs : List Group) (i : ℕ) (d : Group) → i < length xs → one (is_stopping (get_or xs i d).group_stop) ≤ stopping_in xs
+pub one_counted : (xs : List Group) (i : ℕ) (d : Group) → i < length xs → bool_to_nat (is_stopping (get_or xs i d).group_stop) ≤ stopping_in xs
 one_counted [] i d h = absurd (omega (arith, h))
 one_counted (x ∷ xs) zero d h = go (is_stopping x.group_stop)
   where
-    go : (b : Bool) → one b ≤ length (cond b (x ∷ filter (λ z. is_stopping z.group_stop) xs) (filter (λ z. is_stopping z.group_stop) xs))
+    go : (b : Bool) → bool_to_nat b ≤ length (cond b (x ∷ filter (λ z. is_stopping z.group_stop) xs) (filter (λ z. is_stopping z.group_stop) xs))
     go true = omega arith
     go false = omega arith
 one_counted (x ∷ xs) (suc i) d h = go (is_stopping x.group_stop) (one_counted xs i d (omega (arith, h)))
   where
-    go : (b : Bool) → one (is_stopping (get_or xs i d).group_stop) ≤ stopping_in xs → one (is_stopping (get_or xs i d).group_stop) ≤ length (cond b (x ∷ filter (λ z. is_stopping z.group_stop) xs) (filter (λ z. is_stopping z.group_stop) xs))
+    go : (b : Bool) → bool_to_nat (is_stopping (get_or xs i d).group_stop) ≤ stopping_in xs → bool_to_nat (is_stopping (get_or xs i d).group_stop) ≤ length (cond b (x ∷ filter (λ z. is_stopping z.group_stop) xs) (filter (λ z. is_stopping z.group_stop) xs))
     go true r = omega (arith, r)
     go false r = r
 
-pub same_tgid : (o : GroupChange) (x : Group) → (regrouped o x).tgid ≡ x.tgid
+pub same_tgid : (o : GroupChange) (x : Group) → (group_changed_by o x).tgid ≡ x.tgid
 same_tgid (change.Begin s) x = refl
 same_tgid change.EndStop x = refl
 same_tgid change.Complete x = refl
@@ -182,22 +182,22 @@ ids_removed [] (suc i) = refl
 ids_removed (x ∷ xs) zero = refl
 ids_removed (x ∷ xs) (suc i) = ap (λ (ns : List ℕ). x.tgid ∷ ns) (ids_removed xs i)
 
-counted_removed : (xs : List Group) (i : ℕ) (d : Group) → i < length xs → (stopping_in (remove xs i) + one (is_stopping (get_or xs i d).group_stop) ≡ stopping_in xs) × (length (remove xs i) ≤ length xs)
+counted_removed : (xs : List Group) (i : ℕ) (d : Group) → i < length xs → (stopping_in (remove xs i) + bool_to_nat (is_stopping (get_or xs i d).group_stop) ≡ stopping_in xs) × (length (remove xs i) ≤ length xs)
 counted_removed [] i d h = absurd (omega (arith, h))
 counted_removed (x ∷ xs) zero d h = (go (is_stopping x.group_stop), omega arith)
   where
-    go : (a : Bool) → stopping_in xs + one a ≡ length (cond a (x ∷ filter (λ z. is_stopping z.group_stop) xs) (filter (λ z. is_stopping z.group_stop) xs))
+    go : (a : Bool) → stopping_in xs + bool_to_nat a ≡ length (cond a (x ∷ filter (λ z. is_stopping z.group_stop) xs) (filter (λ z. is_stopping z.group_stop) xs))
     go true = omega arith
     go false = omega arith
 counted_removed (x ∷ xs) (suc i) d h = let r = counted_removed xs i d (omega (arith, h)) in (go (is_stopping x.group_stop) r.0, omega (arith, r.1))
   where
-    go : (a : Bool) → stopping_in (remove xs i) + one (is_stopping (get_or xs i d).group_stop) ≡ stopping_in xs
-        → length (cond a (x ∷ filter (λ z. is_stopping z.group_stop) (remove xs i)) (filter (λ z. is_stopping z.group_stop) (remove xs i))) + one (is_stopping (get_or xs i d).group_stop)
+    go : (a : Bool) → stopping_in (remove xs i) + bool_to_nat (is_stopping (get_or xs i d).group_stop) ≡ stopping_in xs
+        → length (cond a (x ∷ filter (λ z. is_stopping z.group_stop) (remove xs i)) (filter (λ z. is_stopping z.group_stop) (remove xs i))) + bool_to_nat (is_stopping (get_or xs i d).group_stop)
         ≡ length (cond a (x ∷ filter (λ z. is_stopping z.group_stop) xs) (filter (λ z. is_stopping z.group_stop) xs))
     go true r = omega (arith, r)
     go false r = omega (arith, r)
 
-pub gone : (xs : List Group) (ids : List ℕ) (n m i : ℕ) (d : Group) → IsGroups xs ids n → i < length xs → m + one (is_stopping (get_or xs i d).group_stop) ≡ n → IsGroups (remove xs i) (remove ids i) m
+pub gone : (xs : List Group) (ids : List ℕ) (n m i : ℕ) (d : Group) → IsGroups xs ids n → i < length xs → m + bool_to_nat (is_stopping (get_or xs i d).group_stop) ≡ n → IsGroups (remove xs i) (remove ids i) m
 gone xs ids n m i d h k c = let r = counted_removed xs i d k in record {
   indexed = ap (λ (ns : List ℕ). remove ns i) h.indexed ∙ sym (ids_removed xs i);
   counted = omega (arith, c, h.counted, r.0);

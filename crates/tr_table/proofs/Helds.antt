@@ -5,13 +5,13 @@ use Rattle.tr_pending.specs.declared.instance.Instance.{Instance}
 use Rattle.tr_tracee.specs.declared.thread.Thread.{Thread}
 use Rattle.tr_tracee.specs.Lives.{held}
 use Rattle.tr_model.specs.declared.fates.Fate.{Fate}
-use Rattle.tr_model.specs.Moves.{endings}
-use Rattle.tr_table.specs.Held.{helds, one}
+use Rattle.tr_model.specs.Moves.{ended_hold}
+use Rattle.tr_table.specs.Held.{bool_to_nat, held_count}
 
-pub helds_drop : (ts : List Thread) (i : ℕ) (x : Thread) → i < length ts → helds (drop i ts) ≡ one (is_some (held (get_or ts i x).life)) + helds (drop (i + 1) ts)
-helds_drop ts i x h = ap helds (drop_more ts i x h)
+pub helds_drop : (ts : List Thread) (i : ℕ) (x : Thread) → i < length ts → held_count (drop i ts) ≡ bool_to_nat (is_some (held (get_or ts i x).life)) + held_count (drop (i + 1) ts)
+helds_drop ts i x h = ap held_count (drop_more ts i x h)
 
-pub few_endings : (fate : Fate) (a b : Option Instance) → length (endings fate a b) ≤ one (is_some a)
+pub few_endings : (fate : Fate) (a b : Option Instance) → length (ended_hold fate a b) ≤ bool_to_nat (is_some a)
 few_endings fate None b = omega arith
 few_endings fate (Some i) None = omega arith
 few_endings fate (Some i) (Some j) = omega arith

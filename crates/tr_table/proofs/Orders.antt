@@ -4,7 +4,7 @@ use Rattle.std.specs.Prelude.{filter}
 use Rattle.tr_model.specs.declared.rows.Target.{Target}
 use Rattle.tr_model.specs.declared.rows.Waiting.{Waiting}
 use Rattle.tr_model.specs.Journals.{AllAbove, AllUpTo, IsSorted}
-use Rattle.tr_model.specs.Moves.{reaimed, without_instance}
+use Rattle.tr_model.specs.Moves.{retargeted, without_instance}
 use Rattle.tr_model.proofs.Sorted.{sorted_filter, sorted_less, sorted_more, sorted_reaimed, up_to_filter, up_to_later, up_to_less, up_to_more, up_to_reaimed}
 use Rattle.tr_table.specs.Order.{IsOrdered}
 use Rattle.tr_table.specs.Queues.{AllBelow, is_one, without_one}
@@ -15,7 +15,7 @@ ordered_filter p qs n h = record { sorted = sorted_filter p qs h.sorted; numbere
 pub ordered_less : (m : ℕ) (qs : List Waiting) (n : ℕ) → IsOrdered qs n → IsOrdered (without_instance m qs) n
 ordered_less m qs n h = record { sorted = sorted_less m qs h.sorted; numbered = up_to_less m n qs h.numbered }
 
-pub ordered_reaimed : (from to : ℕ) (qs : List Waiting) (n : ℕ) → IsOrdered qs n → IsOrdered (map (reaimed from to) qs) n
+pub ordered_reaimed : (from to : ℕ) (qs : List Waiting) (n : ℕ) → IsOrdered qs n → IsOrdered (map (retargeted from to) qs) n
 ordered_reaimed from to qs n h = record { sorted = sorted_reaimed from to qs h.sorted; numbered = up_to_reaimed from to n qs h.numbered }
 
 pub ordered_later : (qs : List Waiting) (n : ℕ) → IsOrdered qs n → IsOrdered qs (n + 1)

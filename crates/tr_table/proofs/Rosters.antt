@@ -7,7 +7,7 @@ use Rattle.tr_tracee.specs.Lives.{is_dead}
 use Rattle.tr_tracee.specs.Threads.{in_group}
 use Rattle.tr_group.specs.Members.{at_place, count_in, member, put_member, put_place}
 use Rattle.tr_model.specs.Journals.{ids_of, occurs}
-use Rattle.tr_model.specs.Moves.{changed, dropped, in_place, renamed}
+use Rattle.tr_model.specs.Moves.{changed, dropped, in_leaders_row, renamed}
 use Rattle.tr_model.specs.Tables.{thread_in}
 use Rattle.tr_model.proofs.Ids.{has_id}
 use Rattle.tr_model.proofs.Measures.{total, total-append, total_dropped, total_filter, total_less, total_same}
@@ -144,14 +144,14 @@ total_joined m k f s [] = omega arith
 total_joined m k f s (t ∷ ts) = omega (arith, s t, total_joined m k f s ts)
 
 module _ (t : Thread) where
-  pub place_id : (x : Thread) → (in_place t x).id ≡ x.id
+  pub place_id : (x : Thread) → (in_leaders_row t x).id ≡ x.id
   place_id x = go (x.id == t.group && is_dead x.life) refl
     where
       go : (b : Bool) → (x.id == t.group && is_dead x.life) ≡ b → (if b then renamed t.group t else x).id ≡ x.id
       go true e = sym (eqb-true x.id t.group (and_parts _ _ e).0)
       go false e = refl
 
-  place_group : (g : ℕ) (x : Thread) → is_of g (in_place t x) ≤ is_of g x + has_id t.group x
+  place_group : (g : ℕ) (x : Thread) → is_of g (in_leaders_row t x) ≤ is_of g x + has_id t.group x
   place_group g x = go (x.id == t.group) (is_dead x.life)
     where
       go : (b d : Bool) → is_of g (if b && d then renamed t.group t else x) ≤ is_of g x + one b
@@ -163,34 +163,34 @@ module _ (t : Thread) where
       go true false = omega arith
       go false d = omega arith
 
-  place_other : (g : ℕ) → (t.group ≡ g → ⊥) → (x : Thread) → is_of g (in_place t x) ≤ is_of g x
+  place_other : (g : ℕ) → (t.group ≡ g → ⊥) → (x : Thread) → is_of g (in_leaders_row t x) ≤ is_of g x
   place_other g e x = go (x.id == t.group && is_dead x.life)
     where
       go : (b : Bool) → is_of g (if b then renamed t.group t else x) ≤ is_of g x
       go true = omega (arith, ap one (ne_eqb t.group g e))
       go false = omega arith
 
-  pub roster_placed : (ts : List Thread) → thread_in ts t.id ≡ Some t → IsRoster ts → IsRoster (map (in_place t) (dropped t.id ts))
-  roster_placed ts there h = by_totals (map (in_place t) us) once (λ g. fits g (cases_eq t.group g))
+  pub roster_placed : (ts : List Thread) → thread_in ts t.id ≡ Some t → IsRoster ts → IsRoster (map (in_leaders_row t) (dropped t.id ts))
+  roster_placed ts there h = by_totals (map (in_leaders_row t) us) once (λ g. fits g (cases_eq t.group g))
     where
       us : List Thread
       us = dropped t.id ts
 
-      once : (n : ℕ) → total (has_id n) (map (in_place t) us) ≤ 1
-      once n = omega (arith, total_same (has_id n) (in_place t) (λ x. ap (λ (i : ℕ). one (i == n)) (place_id x)) us, total_without (has_id n) t.id ts, one_at_most n ts h)
+      once : (n : ℕ) → total (has_id n) (map (in_leaders_row t) us) ≤ 1
+      once n = omega (arith, total_same (has_id n) (in_leaders_row t) (λ x. ap (λ (i : ℕ). one (i == n)) (place_id x)) us, total_without (has_id n) t.id ts, one_at_most n ts h)
 
-      fits : (g : ℕ) → (t.group ≡ g) ⊎ (t.group ≡ g → ⊥) → total (is_of g) (map (in_place t) us) ≤ 64
+      fits : (g : ℕ) → (t.group ≡ g) ⊎ (t.group ≡ g → ⊥) → total (is_of g) (map (in_leaders_row t) us) ≤ 64
       fits g (inl e) =
           omega (
             arith,
-            total_joined (is_of g) (has_id t.group) (in_place t) (place_group g) us,
+            total_joined (is_of g) (has_id t.group) (in_leaders_row t) (place_group g) us,
             total_dropped (is_of g) t.id t ts there,
             ap one (eq-eqb t.group g e),
             total_without (has_id t.group) t.id ts,
             one_at_most t.group ts h,
             few_at_most g ts h,
           )
-      fits g (inr e) = omega (arith, total_less (is_of g) (in_place t) (place_other g e) us, total_without (is_of g) t.id ts, few_at_most g ts h)
+      fits g (inr e) = omega (arith, total_less (is_of g) (in_leaders_row t) (place_other g e) us, total_without (is_of g) t.id ts, few_at_most g ts h)
 
 -- where a thread came, or memory was refused
 pub roster_grown : {A B : Type 0} (r : Result A B) (t : Thread) (ts us : List Thread) → OnOk r (us ≡ ts ++ t ∷ []) → OnErr r (us ≡ ts) → thread_in ts t.id ≡ None → length (filter (in_group t.group) ts) < 64 → IsRoster ts → IsRoster us

@@ -2,7 +2,7 @@
 use Rattle.std.proofs.Common.{◌≡◌, ◌∙◌, ◌==◌, ◌&&◌, ℕ, List, [], ◌∷◌, Some, Bool, true, false, not, map, filter, length, cond, arith, ap, refl}
 use Rattle.tr_group.specs.GroupStops.{is_stopping}
 use Rattle.tr_model.specs.declared.rows.Group.{Group}
-use Rattle.tr_model.specs.GroupStops.{fill_stop, settle, settle_group}
+use Rattle.tr_model.specs.GroupStops.{complete_group_stop, complete_group_stops, complete_stop}
 use Rattle.tr_model.specs.Moves.{Work, each, when}
 use Rattle.tr_model.specs.Tables.{group_in, group_of, has_stop_mark, stop_of}
 use Rattle.tr_table.specs.Changes.{stopping}
@@ -21,9 +21,9 @@ none_in (x ∷ xs) z g = go (is_stopping x.group_stop) refl z (none_in xs) (x.tg
     go false e k r true = e
     go false e k r false = r k g
 
-still : (gs : List ℕ) (w : Work) → ((g : ℕ) → is_stopping (stop_of (group_of w.table g)) ≡ false) → each gs settle_group w ≡ w
+still : (gs : List ℕ) (w : Work) → ((g : ℕ) → is_stopping (stop_of (group_of w.table g)) ≡ false) → each gs complete_group_stop w ≡ w
 still [] w h = refl
-still (g ∷ gs) w h = ap (λ (b : Bool). each gs settle_group (when (b && not (has_stop_mark w.table g)) (fill_stop g) w)) (h g) ∙ still gs w h
+still (g ∷ gs) w h = ap (λ (b : Bool). each gs complete_group_stop (when (b && not (has_stop_mark w.table g)) (complete_stop g) w)) (h g) ∙ still gs w h
 
-pub none_stopping : (w : Work) → stopping w.table ≡ 0 → settle w ≡ w
+pub none_stopping : (w : Work) → stopping w.table ≡ 0 → complete_group_stops w ≡ w
 none_stopping w z = still (map (λ x. x.tgid) w.table.groups) w (none_in w.table.groups z)

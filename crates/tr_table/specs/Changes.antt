@@ -4,13 +4,13 @@ use Rattle.tr_pending.specs.declared.instance.Instance.{Instance}
 use Rattle.tr_tracee.specs.declared.thread.Thread.{Thread}
 use Rattle.tr_tracee.specs.Ends.{dead, execed, execing, leaving, released, unmarked}
 use Rattle.tr_tracee.specs.Marks.{joining, masked, paused, stopped}
-use Rattle.tr_tracee.specs.Stops.{interrupted, set_options, told_nothing, traced_by, untraced}
+use Rattle.tr_tracee.specs.Stops.{interrupted, set_options, traced_by, untraced, without_report}
 use Rattle.tr_group.specs.GroupStops.{is_stopping}
 use Rattle.tr_model.specs.declared.rows.Group.{Group}
 use Rattle.tr_model.specs.declared.rows.Target.{Target}
 use Rattle.tr_model.specs.declared.rows.Waiting.{Waiting}
 use Rattle.tr_model.specs.Deaths.{dying_with}
-use Rattle.tr_model.specs.GroupStops.{beginning, ended_stop, full}
+use Rattle.tr_model.specs.GroupStops.{beginning, completed_group, ended_stop}
 use Rattle.tr_model.specs.Execs.{with_reset}
 use Rattle.tr_model.specs.Sends.{with_action}
 use Rattle.tr_model.specs.Waits.{no_note}
@@ -20,36 +20,36 @@ use Rattle.tr_table.specs.declared.waiting.Flush.{Flush}
 use Rattle.tr_table.specs.declared.waiting.Flush.TheVariants as flush
 use Rattle.tr_table.specs.declared.groups.GroupChange.{GroupChange}
 use Rattle.tr_table.specs.declared.groups.GroupChange.TheVariants as group
-use Rattle.tr_table.specs.declared.threads.Own.{Own}
-use Rattle.tr_table.specs.declared.threads.Own.TheVariants as thread
+use Rattle.tr_table.specs.declared.threads.ThreadChange.{ThreadChange}
+use Rattle.tr_table.specs.declared.threads.ThreadChange.TheVariants as thread
 
 -- what the change makes of one thread's record
-abbrev pub own : Own → Thread → Thread
-own (thread.Mask set) t = masked set t
-own (thread.Pausing p) t = paused p t
-own thread.Join t = joining t
-own thread.Stop t = stopped t
-own thread.Unmark t = unmarked t
-own (thread.Leave e) t = leaving e t
-own thread.Die t = dead t
-own thread.Release t = released t
-own thread.WithdrawReport t = told_nothing t
-own (thread.TraceBy r) t = traced_by r t
-own (thread.SetOptions o) t = set_options o t
-own thread.Interrupt t = interrupted t
-own (thread.Detach in_effect) t = untraced in_effect t
-own thread.BeginExec t = execing t
-own thread.EndExec t = execed t
+abbrev pub thread_changed_by : ThreadChange → Thread → Thread
+thread_changed_by (thread.Mask set) t = masked set t
+thread_changed_by (thread.Pausing p) t = paused p t
+thread_changed_by thread.Join t = joining t
+thread_changed_by thread.Stop t = stopped t
+thread_changed_by thread.Unmark t = unmarked t
+thread_changed_by (thread.Leave e) t = leaving e t
+thread_changed_by thread.Die t = dead t
+thread_changed_by thread.Release t = released t
+thread_changed_by thread.WithdrawReport t = without_report t
+thread_changed_by (thread.TraceBy r) t = traced_by r t
+thread_changed_by (thread.SetOptions o) t = set_options o t
+thread_changed_by thread.Interrupt t = interrupted t
+thread_changed_by (thread.Detach in_effect) t = untraced in_effect t
+thread_changed_by thread.BeginExec t = execing t
+thread_changed_by thread.EndExec t = execed t
 
 -- what the change makes of one group's record
-abbrev pub regrouped : GroupChange → Group → Group
-regrouped (group.Begin s) x = beginning s x
-regrouped group.EndStop x = ended_stop x
-regrouped group.Complete x = full x
-regrouped (group.Die e) x = dying_with e x
-regrouped (group.Act s how) x = with_action s how x
-regrouped group.DropNote x = no_note x
-regrouped group.ResetActions x = with_reset x
+abbrev pub group_changed_by : GroupChange → Group → Group
+group_changed_by (group.Begin s) x = beginning s x
+group_changed_by group.EndStop x = ended_stop x
+group_changed_by group.Complete x = completed_group x
+group_changed_by (group.Die e) x = dying_with e x
+group_changed_by (group.Act s how) x = with_action s how x
+group_changed_by group.DropNote x = no_note x
+group_changed_by group.ResetActions x = with_reset x
 
 -- the queue of a target, among all that waits
 abbrev pub queue_in : Target → List Waiting → List Instance

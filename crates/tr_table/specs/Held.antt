@@ -4,10 +4,10 @@ use Rattle.tr_tracee.specs.declared.thread.Thread.{Thread}
 use Rattle.tr_tracee.specs.Lives.{held}
 
 -- one where it holds, else none
-abbrev pub one : Bool → ℕ
-one b = if b then 1 else 0
+abbrev pub bool_to_nat : Bool → ℕ
+bool_to_nat b = if b then 1 else 0
 
 -- how many threads hold an instance at a signal-delivery-stop
-abbrev pub helds : List Thread → ℕ
-helds [] = 0
-helds (t ∷ ts) = one (is_some (held t.life)) + helds ts
+abbrev pub held_count : List Thread → ℕ
+held_count [] = 0
+held_count (t ∷ ts) = bool_to_nat (is_some (held t.life)) + held_count ts

@@ -1,22 +1,22 @@
 ghost use Rattle.std.specs.Prelude.{◌≡◌, ◌+◌, ◌<◌, ◌≤◌, ◌^◌, ◌++◌, ◌==◌, ◌∷◌, [], IsTrue, OnErr, OnOk, filter, flat_map, length, map, not, vec_len, vec_capacity};
 ghost use Rattle.tr_model.specs.declared.fates.Fate.TheVariants.{Delivered, Flushed};
 ghost use Rattle.tr_model.specs.declared.rows.Target.TheVariants as target;
-ghost use Rattle.tr_model.specs.Moves.{changed, ending_of, ends, group_changed, instance_in, only_group, with_note, without_instance};
+ghost use Rattle.tr_model.specs.Moves.{changed, ended_by_change, ending_of, group_changed, instance_in, only_group, with_note, without_instance};
 ghost use Rattle.tr_model.specs.Tables.{Table};
 ghost use Rattle.tr_model.specs.Tables.{action_of, all_dead, has_live, has_stop_mark, has_traced, members, owner, queue, stop_of, end_of, group_of, thread_of};
 ghost use Rattle.tr_pending.specs.Waiting.{best_of, is_waiting};
-ghost use Rattle.tr_tracee.specs.Ends.{broken, broken_by_exec};
+ghost use Rattle.tr_tracee.specs.Ends.{begun_to_leave, begun_to_leave_by_exec};
 ghost use Rattle.tr_tracee.specs.Marks.{cont_noted, marked};
 ghost use Rattle.tr_tracee.specs.Stops.{entered_as, reported};
-ghost use Rattle.tr_tracee.specs.Threads.{only, throughout};
+ghost use Rattle.tr_tracee.specs.Threads.{at_group, at_thread};
 ghost use Rattle.tr_group.specs.Members.{continued_by};
-ghost use Rattle.tr_table.specs.Changes.{is_flushed, own, regrouped};
-ghost use Rattle.tr_table.specs.Held.{helds};
+ghost use Rattle.tr_table.specs.Changes.{group_changed_by, is_flushed, thread_changed_by};
+ghost use Rattle.tr_table.specs.Held.{held_count};
 ghost use Rattle.tr_table.specs.Queues.{AllBelow};
 
 use crate::groups::GroupChange;
 use crate::table::Table;
-use crate::threads::{Own, log_leaving};
+use crate::threads::{ThreadChange, log_leaving};
 use crate::waiting::{Flush, drop_delivered, drop_flushed, log_delivered, log_flushed, pull};
 use std::alloc::AllocError;
 use tr_group::{continue_all, initiate, leave_all, note_cont};
@@ -43,31 +43,31 @@ impl Table {
 
     /// A group-stop begins for the threads of a group: they are marked.
     pub fn mark_all(&mut self, tgid: u32)
-        ensures { self.new ≡ record self.old { table = record self.old.table { threads = map (throughout tgid marked) self.old.table.threads } } }
+        ensures { self.new ≡ record self.old { table = record self.old.table { threads = map (at_group tgid marked) self.old.table.threads } } }
     {
         initiate(&mut self.threads, tgid);
     }
 
     /// A SIGCONT comes to the threads of a group; `in_effect` says whether a group-stop is in effect.
     pub fn continue_threads(&mut self, tgid: u32, in_effect: bool)
-        ensures { self.new ≡ record self.old { table = record self.old.table { threads = map (throughout tgid (continued_by in_effect)) self.old.table.threads } } }
+        ensures { self.new ≡ record self.old { table = record self.old.table { threads = map (at_group tgid (continued_by in_effect)) self.old.table.threads } } }
     {
         continue_all(&mut self.threads, tgid, in_effect);
     }
 
     /// Each signal-delivery-stop of a group notes that a SIGCONT came.
     pub fn note_cont(&mut self, tgid: u32)
-        ensures { self.new ≡ record self.old { table = record self.old.table { threads = map (throughout tgid cont_noted) self.old.table.threads } } }
+        ensures { self.new ≡ record self.old { table = record self.old.table { threads = map (at_group tgid cont_noted) self.old.table.threads } } }
     {
         note_cont(&mut self.threads, tgid);
     }
 
     /// Each thread of a group that isn't dead begins to leave. What they held is flushed, and appended to `ended`.
     pub fn leave(&mut self, tgid: u32, kill: bool, end: &End, ended: &mut Vec<Ending>)
-        requires { vec_len ended.old + helds self.old.table.threads ≤ vec_capacity ended.old }
-        ensures table { self.new ≡ record self.old { table = record self.old.table { threads = map (throughout tgid (broken kill end.now)) self.old.table.threads } } }
-        ensures ended { ended.new.items ≡ ended.old.items ++ flat_map (ends Flushed (throughout tgid (broken kill end.now))) self.old.table.threads }
-        ensures len { vec_len ended.new ≡ vec_len ended.old + length (flat_map (ends Flushed (throughout tgid (broken kill end.now))) self.old.table.threads) }
+        requires { vec_len ended.old + held_count self.old.table.threads ≤ vec_capacity ended.old }
+        ensures table { self.new ≡ record self.old { table = record self.old.table { threads = map (at_group tgid (begun_to_leave kill end.now)) self.old.table.threads } } }
+        ensures ended { ended.new.items ≡ ended.old.items ++ flat_map (ended_by_change Flushed (at_group tgid (begun_to_leave kill end.now))) self.old.table.threads }
+        ensures len { vec_len ended.new ≡ vec_len ended.old + length (flat_map (ended_by_change Flushed (at_group tgid (begun_to_leave kill end.now))) self.old.table.threads) }
         ensures capacity { vec_capacity ended.new ≡ vec_capacity ended.old }
     {
         log_leaving(ended, self.threads.as_slice(), tgid, kill, end);
@@ -77,18 +77,18 @@ impl Table {
     /// Each other thread of a group that isn't dead begins to leave, since the thread with the id has called execve(2).
     /// What they held is flushed, and appended to `ended`.
     pub fn leave_for_exec(&mut self, tgid: u32, id: u32, end: &End, ended: &mut Vec<Ending>)
-        requires { vec_len ended.old + helds self.old.table.threads ≤ vec_capacity ended.old }
-        ensures table { self.new ≡ record self.old { table = record self.old.table { threads = map (throughout tgid (broken_by_exec id end.now)) self.old.table.threads } } }
-        ensures ended { ended.new.items ≡ ended.old.items ++ flat_map (ends Flushed (throughout tgid (broken_by_exec id end.now))) self.old.table.threads }
-        ensures len { vec_len ended.new ≡ vec_len ended.old + length (flat_map (ends Flushed (throughout tgid (broken_by_exec id end.now))) self.old.table.threads) }
+        requires { vec_len ended.old + held_count self.old.table.threads ≤ vec_capacity ended.old }
+        ensures table { self.new ≡ record self.old { table = record self.old.table { threads = map (at_group tgid (begun_to_leave_by_exec id end.now)) self.old.table.threads } } }
+        ensures ended { ended.new.items ≡ ended.old.items ++ flat_map (ended_by_change Flushed (at_group tgid (begun_to_leave_by_exec id end.now))) self.old.table.threads }
+        ensures len { vec_len ended.new ≡ vec_len ended.old + length (flat_map (ended_by_change Flushed (at_group tgid (begun_to_leave_by_exec id end.now))) self.old.table.threads) }
         ensures capacity { vec_capacity ended.new ≡ vec_capacity ended.old }
     {
         self.threads.leave_for_exec(tgid, id, end, ended);
     }
 
     /// What happens to the record of a thread.
-    pub fn change_thread(&mut self, id: u32, change: &Own)
-        ensures { self.new ≡ record self.old { table = record self.old.table { threads = map (only id (own change.now)) self.old.table.threads } } }
+    pub fn change_thread(&mut self, id: u32, change: &ThreadChange)
+        ensures { self.new ≡ record self.old { table = record self.old.table { threads = map (at_thread id (thread_changed_by change.now)) self.old.table.threads } } }
     {
         self.threads.change(id, change);
     }
@@ -113,7 +113,7 @@ impl Table {
 
     /// What happens to the record of a group.
     pub fn change_group(&mut self, tgid: u32, change: &GroupChange)
-        ensures { self.new ≡ record self.old { table = record self.old.table { groups = map (only_group tgid (regrouped change.now)) self.old.table.groups } } }
+        ensures { self.new ≡ record self.old { table = record self.old.table { groups = map (only_group tgid (group_changed_by change.now)) self.old.table.groups } } }
     {
         self.groups.change(tgid, change);
     }

@@ -4,8 +4,8 @@ ghost use Rattle.tr_tracee.specs.Threads.{in_group};
 ghost use Rattle.tr_model.specs.Journals.{occurs};
 ghost use Rattle.tr_model.specs.Moves.{group_changed, only_group, with_note};
 ghost use Rattle.tr_model.specs.Tables.{group_in};
-ghost use Rattle.tr_table.specs.Changes.{regrouped};
-ghost use Rattle.tr_table.specs.Held.{one};
+ghost use Rattle.tr_table.specs.Changes.{group_changed_by};
+ghost use Rattle.tr_table.specs.Held.{bool_to_nat};
 ghost use Rattle.tr_table.specs.Private.{IsGroupPlace, stopping_in, tgids_of};
 
 use crate::groups::{GroupChange, count_stopping};
@@ -50,9 +50,9 @@ fn index_of(groups: &[Group], alloc: Global) -> Result<Index, AllocError>
 
 /// Counts again where one of those that are counted was or wasn't under way, and is or isn't now.
 fn recounted(stopping: usize, was: bool, is: bool) -> usize
-    requires was { one was ≤ stopping }
+    requires was { bool_to_nat was ≤ stopping }
     requires few { stopping ≤ 1024 }
-    ensures { result + one was ≡ stopping + one is }
+    ensures { result + bool_to_nat was ≡ stopping + bool_to_nat is }
 {
     match (was, is) {
         (true, false) => stopping - 1,
@@ -105,7 +105,7 @@ impl Groups {
 
     /// Changes the group with the id.
     pub(crate) fn change(&mut self, tgid: u32, change: &GroupChange)
-        ensures { self.new ≡ map (only_group tgid (regrouped change.now)) self.old }
+        ensures { self.new ≡ map (only_group tgid (group_changed_by change.now)) self.old }
     {
         if let Some(place) = self.place(tgid) {
             let group = &mut self.list[place];

@@ -6,7 +6,7 @@ ghost use Rattle.tr_group.specs.GroupStops.{is_stopping};
 ghost use Rattle.tr_group.specs.declared.stops.Action.TheVariants.{Default};
 ghost use Rattle.tr_model.specs.Moves.{group_changed, only_group, with_note};
 ghost use Rattle.tr_model.specs.Tables.{actions_of, end_of, group_in, stop_of};
-ghost use Rattle.tr_table.specs.Changes.{regrouped};
+ghost use Rattle.tr_table.specs.Changes.{group_changed_by};
 ghost use Rattle.tr_table.specs.Private.{IsGroupPlace};
 
 use crate::group_list::Groups;
@@ -36,11 +36,11 @@ pub enum GroupChange {
 }
 
 impl GroupChange {
-    ghost use Rattle.tr_table.specs.Changes.{regrouped};
+    ghost use Rattle.tr_table.specs.Changes.{group_changed_by};
 
     /// What it makes of a group.
     pub(crate) fn make(&self, group: &mut Group)
-        ensures { group.new ≡ regrouped self.now group.old }
+        ensures { group.new ≡ group_changed_by self.now group.old }
     {
         match self {
             GroupChange::Begin(signal) => group.group_stop.begin(*signal),
@@ -58,7 +58,7 @@ impl GroupChange {
 }
 
 fn die(group: &mut Group, end: &End)
-    ensures { group.new ≡ regrouped (GroupChange.Die end.now) group.old }
+    ensures { group.new ≡ group_changed_by (GroupChange.Die end.now) group.old }
 {
     if group.end.is_none() {
         group.end = Some(*end);
@@ -69,7 +69,7 @@ fn die(group: &mut Group, end: &End)
 
 #[tactic(auto, using(crate::proofs::SetActions::set_at_place))]
 fn act(group: &mut Group, signal: Signal, action: Action)
-    ensures { group.new ≡ regrouped (GroupChange.Act signal action) group.old }
+    ensures { group.new ≡ group_changed_by (GroupChange.Act signal action) group.old }
 {
     group.actions[usize::from(signal.number() - 1)] = action;
 }

@@ -30,5 +30,5 @@ pub use logs::Log;
 pub use rows::Rows;
 pub use starts::{GroupStart, Start};
 pub use table::Table;
-pub use threads::Own;
+pub use threads::ThreadChange;
 pub use waiting::Flush;

@@ -1,5 +1,5 @@
 use crate::table::Table;
-use tr_group::{Change, Members};
+use tr_group::{MemberChange, Members};
 use tr_tracee::Thread;
 
 impl Members for Table {
@@ -19,7 +19,7 @@ impl Members for Table {
         self.threads.put(tgid, i, thread);
     }
 
-    fn change_all(&mut self, tgid: u32, change: &Change) {
+    fn change_all(&mut self, tgid: u32, change: &MemberChange) {
         self.threads.change_all(tgid, change);
     }
 }

@@ -1,6 +1,6 @@
 ghost use Rattle.std.specs.Prelude.{◌≡◌, ◌<◌, ◌++◌, ◌∷◌, ◌==◌, [], None, OnErr, OnOk, Some, is_some, length};
 ghost use Rattle.tr_tracee.specs.declared.thread.Thread.{Thread};
-ghost use Rattle.tr_model.specs.Moves.{at, begin, changed, drop_empty, dropped, group_changed, placed, remove_dead};
+ghost use Rattle.tr_model.specs.Moves.{at, begin, changed, drop_empty, dropped, group_changed, remove_dead, with_leaders_row};
 ghost use Rattle.tr_model.specs.Tables.{members, thread_of};
 
 use crate::table::Table;
@@ -53,7 +53,7 @@ impl Table {
     /// The thread with the id takes the place and the id of its dead leader, whose record goes, and what waits for it
     /// goes with it: "execve(2) under ptrace" of ptrace(2). Nothing changes where there is no such thread.
     pub fn rename(&mut self, id: u32)
-        ensures { self.new ≡ record self.old { table = (at id placed (begin self.old.table)).table } }
+        ensures { self.new ≡ record self.old { table = (at id with_leaders_row (begin self.old.table)).table } }
     {
         if let Some(thread) = self.threads.find(id) {
             let thread = *thread;

@@ -2,23 +2,23 @@ ghost use Rattle.std.specs.Prelude.{◌≡◌, ◌+◌, ◌<◌, ◌≤◌, ◌+
 ghost use Rattle.std.specs.List.{list_all, list_any};
 ghost use Rattle.tr_sigset.specs.Sets.{has};
 ghost use Rattle.tr_tracee.specs.Lives.{is_dead, is_live};
-ghost use Rattle.tr_tracee.specs.Threads.{in_group, is_traced, only, throughout};
-ghost use Rattle.tr_tracee.specs.Ends.{broken, broken_by_exec};
+ghost use Rattle.tr_tracee.specs.Threads.{at_group, at_thread, in_group, is_traced};
+ghost use Rattle.tr_tracee.specs.Ends.{begun_to_leave, begun_to_leave_by_exec};
 ghost use Rattle.tr_model.specs.declared.fates.Fate.TheVariants.{Flushed};
-ghost use Rattle.tr_table.specs.Held.{helds, one};
+ghost use Rattle.tr_table.specs.Held.{bool_to_nat, held_count};
 ghost use Rattle.tr_tracee.specs.Stops.{entered_as, reported};
 ghost use Rattle.tr_group.specs.Members.{count_in, member, put_member};
 ghost use Rattle.tr_model.specs.Journals.{ids_of, occurs};
-ghost use Rattle.tr_model.specs.Moves.{changed, dropped, endings, ends, in_place};
+ghost use Rattle.tr_model.specs.Moves.{changed, dropped, ended_by_change, ended_hold, in_leaders_row};
 ghost use Rattle.tr_model.specs.Tables.{owner_in, thread_in};
-ghost use Rattle.tr_table.specs.Changes.{own};
+ghost use Rattle.tr_table.specs.Changes.{thread_changed_by};
 ghost use Rattle.tr_table.specs.Private.{IsPlace};
 
 use crate::index::Index;
 use std::alloc::{AllocError, Global};
 use std::marker::Model;
 use std::slice;
-use tr_group::{Change, Members, change_each};
+use tr_group::{MemberChange, Members, change_each};
 use tr_model::{Ending, Fate, Target};
 use tr_pending::Instance;
 use tr_sigset::{SigSet, Signal};
@@ -47,7 +47,7 @@ impl Model for Threads {
 
 /// What happens to the record of one thread.
 #[derive(Clone, Copy, Debug)]
-pub enum Own {
+pub enum ThreadChange {
     /// It sets its mask.
     Mask(SigSet),
     /// It begins or ends a pause.
@@ -97,7 +97,7 @@ impl Members for Threads {
         self.list[place] = thread;
     }
 
-    fn change_all(&mut self, tgid: u32, change: &Change) {
+    fn change_all(&mut self, tgid: u32, change: &MemberChange) {
         change_each(&mut self.list, tgid, change);
     }
 }
@@ -143,8 +143,8 @@ impl Threads {
     }
 
     /// What happens to the thread with the id.
-    pub(crate) fn change(&mut self, id: u32, change: &Own)
-        ensures { self.new ≡ changed id (own change.now) self.old }
+    pub(crate) fn change(&mut self, id: u32, change: &ThreadChange)
+        ensures { self.new ≡ changed id (thread_changed_by change.now) self.old }
     {
         if let Some(place) = self.place(id) {
             change.make(&mut self.list[place]);
@@ -207,7 +207,7 @@ impl Threads {
 
     /// A thread takes the place and the id of its dead leader.
     pub(crate) fn take_place(&mut self, thread: &Thread)
-        ensures { self.new ≡ map (in_place thread.now) (dropped thread.now.id self.old) }
+        ensures { self.new ≡ map (in_leaders_row thread.now) (dropped thread.now.id self.old) }
     {
         self.remove(thread.id);
         place_each(&mut self.list, thread);
@@ -224,10 +224,10 @@ impl Threads {
 
     /// The threads of a group but that with the id begin to leave, since that has called execve(2).
     pub(crate) fn leave_for_exec(&mut self, tgid: u32, id: u32, end: &End, ended: &mut Vec<Ending>)
-        requires { vec_len ended.old + helds self.old ≤ vec_capacity ended.old }
-        ensures threads { self.new ≡ map (throughout tgid (broken_by_exec id end.now)) self.old }
-        ensures ended { ended.new.items ≡ ended.old.items ++ flat_map (ends Flushed (throughout tgid (broken_by_exec id end.now))) self.old }
-        ensures len { vec_len ended.new ≡ vec_len ended.old + length (flat_map (ends Flushed (throughout tgid (broken_by_exec id end.now))) self.old) }
+        requires { vec_len ended.old + held_count self.old ≤ vec_capacity ended.old }
+        ensures threads { self.new ≡ map (at_group tgid (begun_to_leave_by_exec id end.now)) self.old }
+        ensures ended { ended.new.items ≡ ended.old.items ++ flat_map (ended_by_change Flushed (at_group tgid (begun_to_leave_by_exec id end.now))) self.old }
+        ensures len { vec_len ended.new ≡ vec_len ended.old + length (flat_map (ended_by_change Flushed (at_group tgid (begun_to_leave_by_exec id end.now))) self.old) }
         ensures capacity { vec_capacity ended.new ≡ vec_capacity ended.old }
     {
         log_leaving_for_exec(ended, &self.list, tgid, id, end);
@@ -244,36 +244,36 @@ impl Threads {
     }
 }
 
-impl Own {
-    ghost use Rattle.tr_table.specs.Changes.{own};
+impl ThreadChange {
+    ghost use Rattle.tr_table.specs.Changes.{thread_changed_by};
 
     /// What it makes of a thread.
     fn make(&self, thread: &mut Thread)
-        ensures { thread.new ≡ own self.now thread.old }
+        ensures { thread.new ≡ thread_changed_by self.now thread.old }
     {
         match self {
-            Own::Mask(set) => thread.set_mask(*set),
-            Own::Pausing(pausing) => thread.set_pausing(*pausing),
-            Own::Join => thread.join(),
-            Own::Stop => thread.stop(),
-            Own::Unmark => thread.unmark(),
-            Own::Leave(end) => thread.leave(end),
-            Own::Die => thread.die(),
-            Own::Release => thread.release(),
-            Own::WithdrawReport => thread.withdraw_report(),
-            Own::TraceBy(trace) => thread.trace_by(trace),
-            Own::SetOptions(options) => thread.set_options(options),
-            Own::Interrupt => thread.interrupt(),
-            Own::Detach(in_effect) => thread.detach(*in_effect),
-            Own::BeginExec => thread.begin_exec(),
-            Own::EndExec => thread.end_exec(),
+            ThreadChange::Mask(set) => thread.set_mask(*set),
+            ThreadChange::Pausing(pausing) => thread.set_pausing(*pausing),
+            ThreadChange::Join => thread.join(),
+            ThreadChange::Stop => thread.stop(),
+            ThreadChange::Unmark => thread.unmark(),
+            ThreadChange::Leave(end) => thread.leave(end),
+            ThreadChange::Die => thread.die(),
+            ThreadChange::Release => thread.release(),
+            ThreadChange::WithdrawReport => thread.withdraw_report(),
+            ThreadChange::TraceBy(trace) => thread.trace_by(trace),
+            ThreadChange::SetOptions(options) => thread.set_options(options),
+            ThreadChange::Interrupt => thread.interrupt(),
+            ThreadChange::Detach(in_effect) => thread.detach(*in_effect),
+            ThreadChange::BeginExec => thread.begin_exec(),
+            ThreadChange::EndExec => thread.end_exec(),
         }
     }
 }
 
 /// A dead leader's row becomes that of a thread of its group.
 fn place(other: &mut Thread, thread: &Thread)
-    ensures { other.new ≡ in_place thread.now other.old }
+    ensures { other.new ≡ in_leaders_row thread.now other.old }
 {
     if other.id == thread.group && other.life.is_dead() {
         *other = *thread;
@@ -283,7 +283,7 @@ fn place(other: &mut Thread, thread: &Thread)
 }
 
 fn place_each(threads: &mut [Thread], thread: &Thread)
-    ensures { threads.new ≡ map (in_place thread.now) threads.old }
+    ensures { threads.new ≡ map (in_leaders_row thread.now) threads.old }
 {
     for other in threads.iter_mut() {
         place(other, thread);
@@ -291,7 +291,7 @@ fn place_each(threads: &mut [Thread], thread: &Thread)
 }
 
 fn left(kill: bool, end: &End, thread: &Thread) -> Thread
-    ensures { result ≡ broken kill end.now thread.now }
+    ensures { result ≡ begun_to_leave kill end.now thread.now }
 {
     let mut changed = *thread;
     changed.begin_to_leave(kill, end);
@@ -299,7 +299,7 @@ fn left(kill: bool, end: &End, thread: &Thread) -> Thread
 }
 
 fn left_in(tgid: u32, kill: bool, end: &End, thread: &Thread) -> Thread
-    ensures { result ≡ throughout tgid (broken kill end.now) thread.now }
+    ensures { result ≡ at_group tgid (begun_to_leave kill end.now) thread.now }
 {
     if thread.group == tgid {
         left(kill, end, thread)
@@ -309,9 +309,9 @@ fn left_in(tgid: u32, kill: bool, end: &End, thread: &Thread) -> Thread
 }
 
 fn push_end(ended: &mut Vec<Ending>, before: &Option<Instance>, after: &Option<Instance>)
-    requires { vec_len ended.old + one (is_some before.now) ≤ vec_capacity ended.old }
-    ensures items { ended.new.items ≡ ended.old.items ++ endings Flushed before.now after.now }
-    ensures len { vec_len ended.new ≡ vec_len ended.old + length (endings Flushed before.now after.now) }
+    requires { vec_len ended.old + bool_to_nat (is_some before.now) ≤ vec_capacity ended.old }
+    ensures items { ended.new.items ≡ ended.old.items ++ ended_hold Flushed before.now after.now }
+    ensures len { vec_len ended.new ≡ vec_len ended.old + length (ended_hold Flushed before.now after.now) }
     ensures capacity { vec_capacity ended.new ≡ vec_capacity ended.old }
 {
     match (before, after) {
@@ -332,9 +332,9 @@ pub(crate) fn log_leaving(
     kill: bool,
     end: &End,
 )
-    requires { vec_len ended.old + helds threads.now ≤ vec_capacity ended.old }
-    ensures items { ended.new.items ≡ ended.old.items ++ flat_map (ends Flushed (throughout tgid (broken kill end.now))) threads.now }
-    ensures len { vec_len ended.new ≡ vec_len ended.old + length (flat_map (ends Flushed (throughout tgid (broken kill end.now))) threads.now) }
+    requires { vec_len ended.old + held_count threads.now ≤ vec_capacity ended.old }
+    ensures items { ended.new.items ≡ ended.old.items ++ flat_map (ended_by_change Flushed (at_group tgid (begun_to_leave kill end.now))) threads.now }
+    ensures len { vec_len ended.new ≡ vec_len ended.old + length (flat_map (ended_by_change Flushed (at_group tgid (begun_to_leave kill end.now))) threads.now) }
     ensures capacity { vec_capacity ended.new ≡ vec_capacity ended.old }
 {
     for thread in threads {
@@ -348,7 +348,7 @@ pub(crate) fn log_leaving(
 
 /// What a thread of a group becomes where another of them, with this id, calls execve(2).
 fn left_for_exec_in(tgid: u32, id: u32, end: &End, thread: &Thread) -> Thread
-    ensures { result ≡ throughout tgid (broken_by_exec id end.now) thread.now }
+    ensures { result ≡ at_group tgid (begun_to_leave_by_exec id end.now) thread.now }
 {
     let mut changed = *thread;
     if thread.group == tgid {
@@ -360,9 +360,9 @@ fn left_for_exec_in(tgid: u32, id: u32, end: &End, thread: &Thread) -> Thread
 /// Appends what the other threads of a group hold, and give up as one of them calls execve(2).
 #[tactic(auto, using(crate::proofs::Helds::helds_drop, crate::proofs::Helds::few_endings))]
 fn log_leaving_for_exec(ended: &mut Vec<Ending>, threads: &[Thread], tgid: u32, id: u32, end: &End)
-    requires { vec_len ended.old + helds threads.now ≤ vec_capacity ended.old }
-    ensures items { ended.new.items ≡ ended.old.items ++ flat_map (ends Flushed (throughout tgid (broken_by_exec id end.now))) threads.now }
-    ensures len { vec_len ended.new ≡ vec_len ended.old + length (flat_map (ends Flushed (throughout tgid (broken_by_exec id end.now))) threads.now) }
+    requires { vec_len ended.old + held_count threads.now ≤ vec_capacity ended.old }
+    ensures items { ended.new.items ≡ ended.old.items ++ flat_map (ended_by_change Flushed (at_group tgid (begun_to_leave_by_exec id end.now))) threads.now }
+    ensures len { vec_len ended.new ≡ vec_len ended.old + length (flat_map (ended_by_change Flushed (at_group tgid (begun_to_leave_by_exec id end.now))) threads.now) }
     ensures capacity { vec_capacity ended.new ≡ vec_capacity ended.old }
 {
     for thread in threads {
@@ -375,7 +375,7 @@ fn log_leaving_for_exec(ended: &mut Vec<Ending>, threads: &[Thread], tgid: u32, 
 }
 
 fn leave_each_for_exec(threads: &mut [Thread], tgid: u32, id: u32, end: &End)
-    ensures { threads.new ≡ map (throughout tgid (broken_by_exec id end.now)) threads.old }
+    ensures { threads.new ≡ map (at_group tgid (begun_to_leave_by_exec id end.now)) threads.old }
 {
     for thread in threads.iter_mut() {
         *thread = left_for_exec_in(tgid, id, end, thread);

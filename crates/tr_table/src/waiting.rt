@@ -1,9 +1,9 @@
 ghost use Rattle.std.specs.Prelude.{◌≡◌, ◌+◌, ◌≤◌, ◌++◌, ◌==◌, ◌∷◌, List, filter, length, map, not, vec_len, vec_capacity};
 ghost use Rattle.tr_model.specs.declared.fates.Fate.TheVariants.{Delivered, Flushed};
-ghost use Rattle.tr_model.specs.Moves.{aimed, ending_of, instance_in, reaimed, without_instance};
+ghost use Rattle.tr_model.specs.Moves.{ending_of, instance_in, retarget, retargeted, without_instance};
 ghost use Rattle.tr_model.specs.Tables.{same_target};
 ghost use Rattle.tr_model.specs.declared.rows.Waiting.{Waiting};
-ghost use Rattle.tr_pending.specs.Waiting.{best_of, first_of, is_waiting, rather};
+ghost use Rattle.tr_pending.specs.Waiting.{best_of, first_of, is_waiting, preferred_of};
 ghost use Rattle.tr_table.specs.Queues.{is_of, is_one, without_one};
 ghost use Rattle.tr_table.specs.Changes.{flushes, is_flushed, queue_in};
 
@@ -176,7 +176,7 @@ pub(crate) fn drop_gone(waiting: &mut Vec<Waiting>, target: Target, set: SigSet)
 
 /// What waits for one thread waits for another.
 pub(crate) fn reaim(waiting: &mut Vec<Waiting>, from: u32, to: u32)
-    ensures items { waiting.new.items ≡ map (reaimed from to) waiting.old.items }
+    ensures items { waiting.new.items ≡ map (retargeted from to) waiting.old.items }
     ensures capacity { vec_capacity waiting.new ≡ vec_capacity waiting.old }
     ensures len { vec_len waiting.new ≡ vec_len waiting.old }
 {
@@ -184,7 +184,7 @@ pub(crate) fn reaim(waiting: &mut Vec<Waiting>, from: u32, to: u32)
 }
 
 fn reaim_each(waiting: &mut [Waiting], from: u32, to: u32)
-    ensures { waiting.new ≡ map (reaimed from to) waiting.old }
+    ensures { waiting.new ≡ map (retargeted from to) waiting.old }
 {
     for w in waiting.iter_mut() {
         w.target = aimed(from, to, w.target);
@@ -192,7 +192,7 @@ fn reaim_each(waiting: &mut [Waiting], from: u32, to: u32)
 }
 
 fn aimed(from: u32, to: u32, target: Target) -> Target
-    ensures { result ≡ aimed from to target }
+    ensures { result ≡ retarget from to target }
 {
     match target {
         Target::Thread(id) if id == from => Target::Thread(to),
@@ -299,7 +299,7 @@ fn better(
 }
 
 fn rather(instance: &Instance, other: &Option<Instance>) -> Instance
-    ensures { result ≡ rather instance.now other.now }
+    ensures { result ≡ preferred_of instance.now other.now }
 {
     match other {
         Some(other) if other.sig.number() < instance.sig.number() => *other,

@@ -24,8 +24,8 @@ abbrev pub leaving : End → Thread → Thread
 leaving e t = record t { life = leaving_life e t.life }
 
 -- its stop is broken and its report withdrawn; it is told where KILL did it, it was told before, or it has no exit stop to make
-abbrev pub out : Bool → End → Thread → Thread
-out kill e t =
+abbrev pub leaving_with : Bool → End → Thread → Thread
+leaving_with kill e t =
     record t {
       life = life.Leaving e (kill || was_told t.life || not (options_of t.trace).exit);
       stop_mark = false;
@@ -38,8 +38,8 @@ out kill e t =
 
 -- It begins to leave: its stop is broken, its marks go. It still has its exit stop before it where its tracer asks for
 -- that, unless KILL did it, or it was told before.
-abbrev pub broken : Bool → End → Thread → Thread
-broken kill e t = if is_dead t.life then t else out kill e t
+abbrev pub begun_to_leave : Bool → End → Thread → Thread
+begun_to_leave kill e t = if is_dead t.life then t else leaving_with kill e t
 
 -- who was told to leave is dead
 abbrev pub dead_life : Life → Life
@@ -63,8 +63,8 @@ own_end e (life.InStop (stop.Exit w)) = end_of_word w
 own_end e _ = e
 
 -- each other thread begins to leave
-abbrev pub broken_by_exec : ℕ → End → Thread → Thread
-broken_by_exec id e t = if t.id == id then t else broken false (own_end e t.life) t
+abbrev pub begun_to_leave_by_exec : ℕ → End → Thread → Thread
+begun_to_leave_by_exec id e t = if t.id == id then t else begun_to_leave false (own_end e t.life) t
 
 -- a running thread waits in execve(2) for the others
 abbrev pub execing_life : Life → Life

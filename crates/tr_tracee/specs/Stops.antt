@@ -41,8 +41,8 @@ abbrev pub reported : ℕ → Status → Thread → Thread
 reported n s t = record t { report = Some (record { number = n; status = s }) }
 
 -- its report is withdrawn, or a wait consumed it
-abbrev pub told_nothing : Thread → Thread
-told_nothing t = record t { report = None }
+abbrev pub without_report : Thread → Thread
+without_report t = record t { report = None }
 
 -- Entering
 

@@ -54,9 +54,9 @@ abbrev pub is_ready_to_take : Thread → Bool
 is_ready_to_take t = is_free t.life && not (has_mark t)
 
 -- f at the thread with the id
-abbrev pub only : ℕ → (Thread → Thread) → Thread → Thread
-only id f t = if t.id == id then f t else t
+abbrev pub at_thread : ℕ → (Thread → Thread) → Thread → Thread
+at_thread id f t = if t.id == id then f t else t
 
 -- f at each thread of the group
-abbrev pub throughout : ℕ → (Thread → Thread) → Thread → Thread
-throughout g f t = if t.group == g then f t else t
+abbrev pub at_group : ℕ → (Thread → Thread) → Thread → Thread
+at_group g f t = if t.group == g then f t else t

@@ -1,5 +1,5 @@
 ghost use Rattle.std.specs.Prelude.{◌≡◌};
-ghost use Rattle.tr_tracee.specs.Ends.{broken, broken_by_exec, child, dead, dead_life, execed, execed_life, execing, execing_life, leaving, leaving_life, out, own_end, released, unmarked};
+ghost use Rattle.tr_tracee.specs.Ends.{begun_to_leave, begun_to_leave_by_exec, child, dead, dead_life, execed, execed_life, execing, execing_life, leaving, leaving_life, leaving_with, own_end, released, unmarked};
 
 use crate::life::{End, Life, Stop};
 use crate::stops::end_of_word;
@@ -12,7 +12,7 @@ impl Thread {
     /// withdrawn. It has its exit stop before it where its tracer asks for that, unless KILL did it or it was told
     /// before. A dead thread stays as it is.
     pub fn begin_to_leave(&mut self, kill: bool, end: &End)
-        ensures { self.new ≡ broken kill end.now self.old }
+        ensures { self.new ≡ begun_to_leave kill end.now self.old }
     {
         if self.life.is_dead() {
             return;
@@ -21,7 +21,7 @@ impl Thread {
     }
 
     fn set_out(&mut self, kill: bool, end: &End)
-        ensures { self.new ≡ out kill end.now self.old }
+        ensures { self.new ≡ leaving_with kill end.now self.old }
     {
         let told = kill || self.life.was_told() || !self.options().exit;
         self.life = Life::Leaving { end: *end, told };
@@ -67,7 +67,7 @@ impl Thread {
     /// Begins to leave, unless it is the thread with this id, since that has called execve(2). It keeps an end of its
     /// own: one that it leaves with, or that its exit stop tells.
     pub fn leave_for_exec(&mut self, id: u32, end: &End)
-        ensures { self.new ≡ broken_by_exec id end.now self.old }
+        ensures { self.new ≡ begun_to_leave_by_exec id end.now self.old }
     {
         if self.id == id {
             return;

@@ -1,6 +1,6 @@
 ghost use Rattle.std.specs.Prelude.{◌≡◌, ◌&&◌, nat_le, if◌then◌else◌, Some, None};
 ghost use Rattle.tr_tracee.specs.Lives.{end_of_word, held};
-ghost use Rattle.tr_tracee.specs.Stops.{ends_part, entered_as, interrupted, listening, listening_life, may_enter, or_else, reported, restarted, restarted_life, set_options, told_nothing, traced_by, untraced, untraced_life, with_options, without_trace};
+ghost use Rattle.tr_tracee.specs.Stops.{ends_part, entered_as, interrupted, listening, listening_life, may_enter, or_else, reported, restarted, restarted_life, set_options, traced_by, untraced, untraced_life, with_options, without_report, without_trace};
 
 use crate::life::{End, Life, Stop};
 use crate::thread::{Options, Report, Thread, Trace};
@@ -38,7 +38,7 @@ impl Thread {
 
     /// Has no report from now on: a wait consumed it, or it was withdrawn.
     pub fn withdraw_report(&mut self)
-        ensures { self.new ≡ told_nothing self.old }
+        ensures { self.new ≡ without_report self.old }
     {
         self.report = None;
     }

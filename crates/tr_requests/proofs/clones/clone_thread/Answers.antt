@@ -4,7 +4,7 @@ use Rattle.tr_tracee.specs.Ends.{child}
 use Rattle.tr_tracee.specs.Lives.{is_free}
 use Rattle.tr_tracee.specs.Threads.{options_of}
 use Rattle.tr_model.specs.Execs.{clone, clone_stop}
-use Rattle.tr_model.specs.GroupStops.{settle}
+use Rattle.tr_model.specs.GroupStops.{complete_group_stops}
 use Rattle.tr_model.specs.Moves.{added, begin, on_thread, when}
 use Rattle.tr_model.specs.Tables.{stop_in_effect, thread_of}
 use Rattle.tr_steps.proofs.Put.{found_again}
@@ -33,6 +33,6 @@ returns-clause-did c =
     let stopped = c.clone_stop_where.ensures.work ∙ ap (when (options_of t.trace).clone (clone_stop t id)) added_now in
     record {
       reply = refl;
-      work = c.settle.ensures.work ∙ ap settle stopped ∙ sym (ap (λ o. settle (on_thread o (λ x. clone x id) (begin T))) e);
-      taken_from = c.settle.ensures.taken_from ∙ c.clone_stop_where.ensures.taken_from ∙ c.in_ok-add.ensures.ok.taken_from ∙ c.in_ok-begin.ensures.taken_from;
+      work = c.complete_group_stops.ensures.work ∙ ap complete_group_stops stopped ∙ sym (ap (λ o. complete_group_stops (on_thread o (λ x. clone x id) (begin T))) e);
+      taken_from = c.complete_group_stops.ensures.taken_from ∙ c.clone_stop_where.ensures.taken_from ∙ c.in_ok-add.ensures.ok.taken_from ∙ c.in_ok-begin.ensures.taken_from;
     }

@@ -1,5 +1,5 @@
 use Rattle.std.proofs.Common.{◌≡◌, ◌∙◌, ap, refl}
-use Rattle.tr_model.specs.GroupStops.{settle}
+use Rattle.tr_model.specs.GroupStops.{complete_group_stops}
 use Rattle.tr_model.specs.Moves.{at, each}
 use Rattle.tr_model.specs.Requests.{exit_kill, ids, lose_tracer, to_kill, tracees}
 use Rattle.tr_requests.specs.Private.{to_kill_among, tracees_among}
@@ -14,9 +14,9 @@ returns-clause-did c =
     let y : c.deref-2.result.now ≡ ids (tracees T a) = c.deref-2.ensures.value ∙ (c.in_ok-left.ensures ∙ ap (λ ts. ids (tracees_among ts a)) (c.threads-2.ensures ∙ ap (λ U. U.threads) c.table-2.ensures)) in
     let killed = c.kill_each.ensures.work ∙ ap (each c.deref.result.now (λ id. at id exit_kill)) c.in_ok-begin.ensures.work in
     let left = c.leave_each.ensures.work ∙ ap (each c.deref-2.result.now (λ id. at id (lose_tracer a))) killed in
-    let done = c.settle.ensures.work ∙ ap settle left in
+    let done = c.complete_group_stops.ensures.work ∙ ap complete_group_stops left in
     record {
       reply = refl;
       work = (rw (x, y) at done);
-      taken_from = c.settle.ensures.taken_from ∙ c.leave_each.ensures.taken_from ∙ c.kill_each.ensures.taken_from ∙ c.in_ok-begin.ensures.taken_from;
+      taken_from = c.complete_group_stops.ensures.taken_from ∙ c.leave_each.ensures.taken_from ∙ c.kill_each.ensures.taken_from ∙ c.in_ok-begin.ensures.taken_from;
     }

@@ -1,5 +1,5 @@
 use Rattle.std.proofs.Common.{◌≡◌, ◌∙◌, ap, arith, length}
-use Rattle.tr_table.specs.Held.{helds}
+use Rattle.tr_table.specs.Held.{held_count}
 use Rattle.tr_steps.proofs.Helds.{helds_few}
 use Rattle.tr_steps.proofs.steps.Step.grow.Goals as goal
 
@@ -18,7 +18,7 @@ invariant_of-self-2 c p =
     let z : length was.ended.items ≡ 0 = ap (λ x. length x.work.ended) v ∙ ap (λ x. length x.work.ended) c.requires.empty in
     let t = c.in_ok-reserve-6.ensures.table in
     let q : length c.reserve-6.new.self.table.waiting ≡ length was.table.table.waiting = ap (λ T. length T.waiting) t in
-    let r : helds c.reserve-6.new.self.table.threads ≡ helds was.table.table.threads = ap (λ T. helds T.threads) t in
+    let r : held_count c.reserve-6.new.self.table.threads ≡ held_count was.table.table.threads = ap (λ T. held_count T.threads) t in
     let n = c.requires.numbers in
     let x : c.reserve-6.new.self.table.accepted ≡ c.args.self.now.work.table.accepted = ap (λ T. T.accepted) t ∙ ap (λ x. x.work.table.accepted) v in
     let y : c.reserve-6.new.self.table.raised ≡ c.args.self.now.work.table.raised = ap (λ T. T.raised) t ∙ ap (λ x. x.work.table.raised) v in

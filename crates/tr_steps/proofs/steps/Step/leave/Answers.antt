@@ -1,7 +1,7 @@
 use Rattle.std.proofs.Common.{◌≡◌, ap, arith, length, map}
-use Rattle.tr_tracee.specs.Ends.{broken}
-use Rattle.tr_tracee.specs.Threads.{throughout}
-use Rattle.tr_table.specs.Held.{helds}
+use Rattle.tr_tracee.specs.Ends.{begun_to_leave}
+use Rattle.tr_tracee.specs.Threads.{at_group}
+use Rattle.tr_table.specs.Held.{held_count}
 use Rattle.tr_steps.proofs.Helds.{helds_leaving}
 use Rattle.tr_steps.proofs.steps.Step.leave.Goals as goal
 
@@ -14,7 +14,7 @@ invariant_of-self c p =
     let u = c.leave.ensures.capacity in
     let v = c.leave.ensures.len in
     let a : length now.table.waiting ≡ length was.waiting = ap (λ T. length T.table.waiting) c.leave.ensures.table in
-    let b : helds now.table.threads ≡ helds (map (throughout c.args.tgid (broken c.args.kill c.args.end.now)) was.threads) = ap (λ T. helds T.table.threads) c.leave.ensures.table in
+    let b : held_count now.table.threads ≡ held_count (map (at_group c.args.tgid (begun_to_leave c.args.kill c.args.end.now)) was.threads) = ap (λ T. held_count T.table.threads) c.leave.ensures.table in
     let h = helds_leaving c.args.tgid c.args.kill c.args.end.now was.threads in
     record {
       ended = omega arith;

@@ -5,7 +5,7 @@ use Rattle.tr_tracee.specs.Stops.{listening}
 use Rattle.tr_model.specs.declared.fates.Fate.TheVariants.{Flushed}
 use Rattle.tr_model.specs.Moves.{changed}
 use Rattle.tr_model.specs.Tables.{thread_of}
-use Rattle.tr_table.specs.Held.{helds}
+use Rattle.tr_table.specs.Held.{held_count}
 use Rattle.tr_steps.proofs.Put.{changed_put, ends_listening, helds_listening}
 use Rattle.tr_steps.proofs.steps.Step.listen.Goals as goal
 
@@ -17,7 +17,7 @@ invariant_of-self c p =
     let m : changed t.id (λ (_ : Thread). listening t) was.threads ≡ changed t.id listening was.threads = changed_put t.id listening was.threads t there in
     let a = c.put_thread.ensures in
     let b = (rw (c.listen.ensures, m) at a) in
-    let x : helds c.put_thread.new.self.table.threads ≡ helds was.threads = ap (λ v. helds v.table.threads) b ∙ helds_listening was.threads t there in
+    let x : held_count c.put_thread.new.self.table.threads ≡ held_count was.threads = ap (λ v. held_count v.table.threads) b ∙ helds_listening was.threads t there in
     let y : length c.put_thread.new.self.table.waiting ≡ length was.waiting = ap (λ v. length v.table.waiting) b in
     let o = c.self.invariant p in
     let e = o.ended in

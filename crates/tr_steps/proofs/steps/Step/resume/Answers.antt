@@ -4,7 +4,7 @@ use Rattle.tr_tracee.specs.Lives.{held}
 use Rattle.tr_tracee.specs.Stops.{restarted}
 use Rattle.tr_model.specs.Moves.{changed}
 use Rattle.tr_model.specs.Tables.{thread_of}
-use Rattle.tr_table.specs.Held.{helds, one}
+use Rattle.tr_table.specs.Held.{bool_to_nat, held_count}
 use Rattle.tr_steps.proofs.Put.{changed_put, ends_restarted, helds_restarted}
 use Rattle.tr_steps.proofs.steps.Step.resume.Goals as goal
 
@@ -17,7 +17,7 @@ end_held-requires c =
     let q : c.self.inside.room ≡ c.args.self.now.room = ap (λ x. x.room) c.self.view_is in
     let r = c.requires.room in
     let o = (c.self.invariant (omega arith)).ended in
-    let k : one (is_some c.restart-held.result) ≡ one (is_some (held t.life)) = ap (λ x. one (is_some x)) c.restart-held.ensures.held in
+    let k : bool_to_nat (is_some c.restart-held.result) ≡ bool_to_nat (is_some (held t.life)) = ap (λ x. bool_to_nat (is_some x)) c.restart-held.ensures.held in
     omega arith
 
 pub invariant_of-self : goal.invariant_of-self
@@ -29,8 +29,8 @@ invariant_of-self c p =
     let a = c.put_thread.ensures in
     let b = (rw (c.restart-held.ensures.thread, m) at a) in
     let h = helds_restarted was.threads t there in
-    let k : one (is_some c.restart-held.result) ≡ one (is_some (held t.life)) = ap (λ x. one (is_some x)) c.restart-held.ensures.held in
-    let x : helds c.put_thread.new.self.table.threads ≡ helds (changed t.id restarted was.threads) = ap (λ v. helds v.table.threads) b in
+    let k : bool_to_nat (is_some c.restart-held.result) ≡ bool_to_nat (is_some (held t.life)) = ap (λ x. bool_to_nat (is_some x)) c.restart-held.ensures.held in
+    let x : held_count c.put_thread.new.self.table.threads ≡ held_count (changed t.id restarted was.threads) = ap (λ v. held_count v.table.threads) b in
     let y : length c.put_thread.new.self.table.waiting ≡ length was.waiting = ap (λ v. length v.table.waiting) b in
     let u = c.end_held.ensures.len in
     let v = c.end_held.ensures.capacity in

@@ -2,9 +2,9 @@ use Rattle.std.proofs.Common.{◌≡◌, ◌∙◌, Some, ap, arith, length, map
 use Rattle.std.proofs.lemmas.List.{length-map}
 use Rattle.std.specs.Prelude.{option_copied}
 use Rattle.tr_tracee.specs.Lives.{is_execing}
-use Rattle.tr_model.specs.Moves.{begin, dropped, in_place, on_thread, placed, reaimed}
+use Rattle.tr_model.specs.Moves.{begin, dropped, in_leaders_row, on_thread, retargeted, with_leaders_row}
 use Rattle.tr_model.specs.Tables.{thread_of}
-use Rattle.tr_table.specs.Held.{helds}
+use Rattle.tr_table.specs.Held.{held_count}
 use Rattle.tr_steps.proofs.Helds.{helds_dropped, helds_in_place}
 use Rattle.tr_steps.proofs.steps.Step.take_place.Goals as goal
 
@@ -15,14 +15,14 @@ invariant_of-self c h =
     let t = c.in-Some.thread.now in
     let now = c.rename.new.self in
     let e : thread_of was c.args.id ≡ Some t = sym c.find.ensures.found ∙ ap option_copied c.in-Some.is in
-    let p = ap (λ x. (on_thread x placed (begin was)).table) e in
+    let p = ap (λ x. (on_thread x with_leaders_row (begin was)).table) e in
     let a = c.rename.ensures in
     let x : is_execing t.life ≡ true = sym c.is_execing.ensures ∙ c.if-is_execing.true in
-    let q : now.table.threads ≡ map (in_place t) (dropped t.id was.threads) = ap (λ v. v.table.threads) a ∙ ap (λ T. T.threads) p in
-    let r : length now.table.waiting ≡ length was.waiting = ap (λ v. length v.table.waiting) a ∙ ap (λ T. length T.waiting) p ∙ length-map was.waiting (reaimed t.id t.group) in
+    let q : now.table.threads ≡ map (in_leaders_row t) (dropped t.id was.threads) = ap (λ v. v.table.threads) a ∙ ap (λ T. T.threads) p in
+    let r : length now.table.waiting ≡ length was.waiting = ap (λ v. length v.table.waiting) a ∙ ap (λ T. length T.waiting) p ∙ length-map was.waiting (retargeted t.id t.group) in
     let k = helds_in_place t x (dropped t.id was.threads) in
     let m = helds_dropped t.id was.threads in
-    let y : helds now.table.threads ≡ helds (map (in_place t) (dropped t.id was.threads)) = ap helds q in
+    let y : held_count now.table.threads ≡ held_count (map (in_leaders_row t) (dropped t.id was.threads)) = ap held_count q in
     let z = o.ended in
     let u : now.room ≡ c.self.inside.table.room = ap (λ v. v.room) a in
     let v : now.table.accepted ≡ was.accepted = ap (λ v. v.table.accepted) a ∙ ap (λ T. T.accepted) p in

@@ -1,10 +1,10 @@
 use Rattle.std.proofs.Common.{◌≡◌, ◌∙◌, List, Some, get_or, arith, ap, subst, sym}
 use Rattle.tr_group.specs.GroupStops.{is_stopping}
 use Rattle.tr_model.specs.declared.rows.Group.{Group}
-use Rattle.tr_table.specs.Held.{one}
+use Rattle.tr_table.specs.Held.{bool_to_nat}
 use Rattle.tr_table.specs.Private.{IsGroupPlace}
 use Rattle.tr_model.specs.Moves.{group_changed}
-use Rattle.tr_table.specs.Changes.{regrouped}
+use Rattle.tr_table.specs.Changes.{group_changed_by}
 use Rattle.tr_table.proofs.GroupLists.{few_stopping, one_counted, only_group_changed, same_tgid, written}
 use Rattle.tr_table.proofs.group_list.Groups.change.Goals as goal
 
@@ -13,7 +13,7 @@ recounted-self-inside-requires-clause-was c =
     let xs = c.self.inside.list.items in
     let x = c.index_mut-group.result.now in
     let here : IsGroupPlace c.args.tgid xs (Some c.in-Some.place) = subst (λ (ys : List Group). IsGroupPlace c.args.tgid ys (Some c.in-Some.place)) (sym c.self.view_is) c.in-Some.ensures.place in
-    let was : one c.is_stopping-was.result ≡ one (is_stopping (get_or xs c.in-Some.place x).group_stop) = ap one (c.is_stopping-was.ensures ∙ ap (λ (y : Group). is_stopping y.group_stop) c.index_mut-group.ensures.value) in
+    let was : bool_to_nat c.is_stopping-was.result ≡ bool_to_nat (is_stopping (get_or xs c.in-Some.place x).group_stop) = ap bool_to_nat (c.is_stopping-was.ensures ∙ ap (λ (y : Group). is_stopping y.group_stop) c.index_mut-group.ensures.value) in
     omega (arith, was, one_counted xs c.in-Some.place x here.0, c.self.invariant.counted)
 
 pub recounted-self-inside-requires-clause-few : goal.recounted-self-inside-requires-clause-few
@@ -24,14 +24,14 @@ invariant_of-self c =
     let xs = c.self.inside.list.items in
     let x = c.index_mut-group.result.now in
     let here : IsGroupPlace c.args.tgid xs (Some c.in-Some.place) = subst (λ (ys : List Group). IsGroupPlace c.args.tgid ys (Some c.in-Some.place)) (sym c.self.view_is) c.in-Some.ensures.place in
-    let was : one c.is_stopping-was.result ≡ one (is_stopping (get_or xs c.in-Some.place x).group_stop) = ap one (c.is_stopping-was.ensures ∙ ap (λ (y : Group). is_stopping y.group_stop) c.index_mut-group.ensures.value) in
-    let is : one c.is_stopping-is.result ≡ one (is_stopping c.make.new.group.group_stop) = ap one c.is_stopping-is.ensures in
+    let was : bool_to_nat c.is_stopping-was.result ≡ bool_to_nat (is_stopping (get_or xs c.in-Some.place x).group_stop) = ap bool_to_nat (c.is_stopping-was.ensures ∙ ap (λ (y : Group). is_stopping y.group_stop) c.index_mut-group.ensures.value) in
+    let is : bool_to_nat c.is_stopping-is.result ≡ bool_to_nat (is_stopping c.make.new.group.group_stop) = ap bool_to_nat c.is_stopping-is.ensures in
     let same : c.make.new.group.tgid ≡ (get_or xs c.in-Some.place x).tgid = ap (λ (y : Group). y.tgid) c.make.ensures ∙ (same_tgid c.args.change.now x ∙ ap (λ (y : Group). y.tgid) c.index_mut-group.ensures.value) in
     written xs _ _ _ c.in-Some.place x c.make.new.group c.self.invariant here.0 same (omega (arith, was, is, c.recounted-self-inside.ensures))
 
 pub returns-in-Some : goal.returns-in-Some
 returns-in-Some c =
-    let f = regrouped c.args.change.now in
+    let f = group_changed_by c.args.change.now in
     let xs = c.self.inside.list.items in
     let x = c.index_mut-group.result.now in
     let here : IsGroupPlace c.args.tgid xs (Some c.in-Some.place) = subst (λ (ys : List Group). IsGroupPlace c.args.tgid ys (Some c.in-Some.place)) (sym c.self.view_is) c.in-Some.ensures.place in
@@ -39,4 +39,4 @@ returns-in-Some c =
     ∙ (ap (group_changed c.args.tgid f) c.self.view_is ∙ sym (only_group_changed c.args.tgid f c.args.self.now (c.place.ensures.once c.args.tgid)))
 
 pub returns-in_default : goal.returns-in_default
-returns-in_default c = let f = regrouped c.args.change.now in sym (c.in_default.ensures.place.0 f) ∙ sym (only_group_changed c.args.tgid f c.args.self.now (c.place.ensures.once c.args.tgid))
+returns-in_default c = let f = group_changed_by c.args.change.now in sym (c.in_default.ensures.place.0 f) ∙ sym (only_group_changed c.args.tgid f c.args.self.now (c.place.ensures.once c.args.tgid))

@@ -1,7 +1,7 @@
 use Rattle.std.proofs.Common.{◌≡◌, ◌==◌, ◌||◌, filter, not, remove, Bool, ◌∙◌, List, Some, get_or, arith, ap, subst, sym}
 use Rattle.tr_group.specs.GroupStops.{is_stopping}
 use Rattle.tr_model.specs.declared.rows.Group.{Group}
-use Rattle.tr_table.specs.Held.{one}
+use Rattle.tr_table.specs.Held.{bool_to_nat}
 use Rattle.tr_table.specs.Private.{IsGroupPlace}
 use Rattle.tr_table.proofs.GroupLists.{all_kept, few_stopping, gone, none_kept_out, one_counted, one_goes}
 use Rattle.tr_table.proofs.group_list.Groups.drop_empty.Goals as goal
@@ -14,7 +14,7 @@ recounted-self-inside-requires-clause-was c =
     let xs = c.self.inside.list.items in
     let x = c.remove-gone.result in
     let here : IsGroupPlace c.args.tgid xs (Some c.in-Some.place) = subst (λ (ys : List Group). IsGroupPlace c.args.tgid ys (Some c.in-Some.place)) (sym c.self.view_is) c.in-Some.ensures.place in
-    let was : one c.is_stopping.result ≡ one (is_stopping (get_or xs c.in-Some.place x).group_stop) = ap one (c.is_stopping.ensures ∙ ap (λ (y : Group). is_stopping y.group_stop) c.remove-gone.ensures.value) in
+    let was : bool_to_nat c.is_stopping.result ≡ bool_to_nat (is_stopping (get_or xs c.in-Some.place x).group_stop) = ap bool_to_nat (c.is_stopping.ensures ∙ ap (λ (y : Group). is_stopping y.group_stop) c.remove-gone.ensures.value) in
     omega (arith, was, one_counted xs c.in-Some.place x here.0, c.self.invariant.counted)
 
 pub recounted-self-inside-requires-clause-few : goal.recounted-self-inside-requires-clause-few
@@ -25,7 +25,7 @@ invariant_of-self c =
     let xs = c.self.inside.list.items in
     let x = c.remove-gone.result in
     let here : IsGroupPlace c.args.tgid xs (Some c.in-Some.place) = subst (λ (ys : List Group). IsGroupPlace c.args.tgid ys (Some c.in-Some.place)) (sym c.self.view_is) c.in-Some.ensures.place in
-    let was : one c.is_stopping.result ≡ one (is_stopping (get_or xs c.in-Some.place x).group_stop) = ap one (c.is_stopping.ensures ∙ ap (λ (y : Group). is_stopping y.group_stop) c.remove-gone.ensures.value) in
+    let was : bool_to_nat c.is_stopping.result ≡ bool_to_nat (is_stopping (get_or xs c.in-Some.place x).group_stop) = ap bool_to_nat (c.is_stopping.ensures ∙ ap (λ (y : Group). is_stopping y.group_stop) c.remove-gone.ensures.value) in
     rw (c.remove-gone.ensures.items, c.remove.ensures) (gone xs _ _ _ c.in-Some.place x c.self.invariant here.0 (omega (arith, was, c.recounted-self-inside.ensures)))
 
 pub returns-in-Some : goal.returns-in-Some
