@@ -11,6 +11,7 @@ pub record Task (G : Type 0) : Type 0 where
   pub script : Script
   pub turns : ℕ
 
+-- its parts in order
 abbrev pub task : {G : Type 0} → G → ℕ → Script → ℕ → Task G
 task gate worker script turns = record { gate = gate; worker = worker; script = script; turns = turns }
 

@@ -14,6 +14,7 @@ use Rattle.tr_workers.specs.declared.scripts.Served.{Served}
 
 -- Kinds of answers
 
+-- there is no such thread
 abbrev pub is_srch : Answer → Bool
 is_srch (Refused Srch) = true
 is_srch answer = false
@@ -52,17 +53,20 @@ abbrev pub items_left : List Item → List Item
 items_left [] = []
 items_left (i ∷ rest) = if is_over i.repeat then items_left rest else i ∷ rest
 
+-- what is left once the first item's call was answered so
 abbrev pub items_after : List Item → Answer → List Item
 items_after [] answer = []
 items_after (i ∷ rest) answer = items_left (record { event = i.event; repeat = repeat_after i.repeat answer } ∷ rest)
 
+-- the call of the first item
 abbrev pub next_of_items : List Item → Option Event
 next_of_items [] = None
 next_of_items (i ∷ rest) = Some i.event
 
 -- Machines
 
--- the threads with the ops that are left; whose turn it is, from 0 (the machine's end is behind the last); how many calls it had since its turn began; and whether each die of this round was answered ESRCH
+-- the threads with the ops that are left; whose turn it is, from 0 (the machine's end is behind the last); how many calls
+-- it had since its turn began; and whether each die of this round was answered ESRCH
 pub record Round : Type 0 where
   pub threads : List Served
   pub place : ℕ
@@ -77,11 +81,11 @@ round_of threads = record { threads = threads; place = 0; calls = 0; gone = true
 abbrev pub visit : Served → List Event
 visit s = Die s.tid ∷ Halt s.tid ∷ Trap s.tid ∷ Finish s.tid ∷ Take s.tid ∷ take 1 s.ops
 
--- an op is used up by its answer, unless it came too early; the five calls before it use up none
+-- an op, the sixth call of a visit, is used up by its answer, unless it came too early
 abbrev pub served_after : Served → ℕ → Answer → Served
 served_after s calls answer = if calls == 5 && not (is_too_early answer) then record { tid = s.tid; ops = drop 1 s.ops } else s
 
--- the turn is over: the next thread's comes, or behind the last thread the end; or else the first thread's, in a new round
+-- the turn is over: ahead is the next thread or, behind the last, the end; else the first thread, in a new round
 abbrev pub turned : Round → List Served → Bool → Bool → Round
 turned r threads gone true = record { threads = threads; place = r.place + 1; calls = 0; gone = gone }
 turned r threads gone false = round_of threads
@@ -97,17 +101,21 @@ answered r s answer =
     moved r (set r.threads r.place (served_after s r.calls answer)) (r.gone && (nat_lt 0 r.calls || is_srch answer))
     (not (ends_visit answer) && is_some (slice_get (visit s) (r.calls + 1)))
 
+-- at the machine's end nothing changes
 abbrev pub round_after_at : Round → Answer → Option Served → Round
 round_after_at r answer None = r
 round_after_at r answer (Some s) = answered r s answer
 
+-- the round once the call of the thread whose turn it is was answered so
 abbrev pub round_after : Round → Answer → Round
 round_after r answer = round_after_at r answer (slice_get r.threads r.place)
 
+-- the call at this place of the thread's visit
 abbrev pub next_of_thread : ℕ → Option Served → Option Event
 next_of_thread calls None = None
 next_of_thread calls (Some s) = slice_get (visit s) calls
 
+-- the call of the thread whose turn it is
 abbrev pub next_of_round : Round → Option Event
 next_of_round r = next_of_thread r.calls (slice_get r.threads r.place)
 
@@ -118,20 +126,22 @@ pub data Progress : Type 0 where
   Calling : List Item → Progress
   Serving : Round → Progress
 
+-- its calls come from a machine
 abbrev pub is_machine : Plan → Bool
 is_machine (Items items) = false
 is_machine (Machine threads) = true
 
+-- how far it has come before its first call
 abbrev pub begun : Plan → Progress
 begun (Items items) = Calling (items_left items)
 begun (Machine threads) = Serving (round_of threads)
 
--- the next call; none at the end
+-- the next call; at the end there is none
 abbrev pub next : Progress → Option Event
 next (Calling items) = next_of_items items
 next (Serving r) = next_of_round r
 
--- the next call was answered so
+-- how far it has come once the next call was answered so
 abbrev pub told : Progress → Answer → Progress
 told (Calling items) answer = Calling (items_after items answer)
 told (Serving r) answer = Serving (round_after r answer)

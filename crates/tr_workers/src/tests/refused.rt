@@ -1,4 +1,4 @@
-//! These hold whichever allocation fails, also that of a thread: `rt try --test --fail-alloc 1..`.
+//! These hold whichever allocation fails, also that of a thread: `rt try --test --fail-alloc N` refuses the Nth.
 
 use super::gates::Open;
 use super::{item, kills, same, start};
