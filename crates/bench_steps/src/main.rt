@@ -4,14 +4,16 @@
 mod starts;
 mod timing;
 
+use starts::{FIRST, Shape, kernel, table};
 use std::{env, io};
 use timing::{STEPS, Timing, timed};
 use tr_kernel::Kernel;
 use tr_model::Event;
 use tr_sigset::SigSet;
+use tr_table::{Own, Table};
 
 /// A tracer, or another process: no thread of the table.
-const SENDER: u32 = 900;
+const SENDER: u32 = 90_000;
 
 const KILL: Event = Event::Kill { tgid: 10, sig: 10 };
 
@@ -20,6 +22,14 @@ const TAKE: Event = Event::Take { tid: 10 };
 const PROBE: Event = Event::Kill { tgid: 10, sig: 0 };
 
 const NOBODY: Event = Event::Kill { tgid: 11, sig: 10 };
+
+/// The id of the last of 1,024 threads.
+const LAST: u32 = FIRST + 1023;
+
+const LAST_KILL: Event = Event::Kill {
+    tgid: LAST,
+    sig: 10,
+};
 
 fn main(rt: HostRuntime) -> io::Result<()> {
     for word in env::args(&rt)?.skip(1) {
@@ -31,11 +41,48 @@ fn main(rt: HostRuntime) -> io::Result<()> {
 }
 
 fn measure(rt: &HostRuntime) -> io::Result<()> {
-    println!(rt; "steps                          ns    M steps/s  answered")?;
-    print(rt, "kill, merged", timed(rt, merged_kills)?)?;
-    print(rt, "kill and take in turn", timed(rt, kills_and_takes)?)?;
-    print(rt, "refused", timed(rt, refused_kills)?)?;
-    print(rt, "without an entry", timed(rt, probes)?)
+    println!(rt; "steps                                 ns    M steps/s  answered")?;
+    let one = Shape {
+        groups: 1,
+        threads: 1,
+    };
+    print(rt, "kill, merged", stepped(rt, one, merged_kills)?)?;
+    print(
+        rt,
+        "kill and take in turn",
+        stepped(rt, one, kills_and_takes)?,
+    )?;
+    print(rt, "refused", stepped(rt, one, refused_kills)?)?;
+    print(rt, "without an entry", stepped(rt, one, probes)?)?;
+    measure_many(rt)
+}
+
+/// The same among the most threads that a table may have.
+fn measure_many(rt: &HostRuntime) -> io::Result<()> {
+    let wide = Shape {
+        groups: 16,
+        threads: 64,
+    };
+    let many = Shape {
+        groups: 1024,
+        threads: 1,
+    };
+    let alloc = rt.alloc();
+    let records = timed(rt, || table(alloc, wide), changes)?;
+    print(rt, "a record of 1,024", records)?;
+    print(rt, "mask, 1,024 threads", stepped(rt, wide, masks)?)?;
+    print(rt, "kill, 1,024 groups", stepped(rt, many, last_kills)?)
+}
+
+fn stepped<R: Fn(&mut Kernel) -> u64>(
+    rt: &HostRuntime,
+    shape: Shape,
+    steps: R,
+) -> io::Result<Timing>
+    requires { R.IsAlwaysCallable steps }
+{
+    let alloc = rt.alloc();
+    timed(rt, || kernel(alloc, shape), steps)
 }
 
 /// Makes one event again and again; how often it was answered.
@@ -75,9 +122,40 @@ fn probes(kernel: &mut Kernel) -> u64 {
     repeat(kernel, PROBE)
 }
 
+/// Changes the record of the last thread again and again.
+#[inline(never)]
+fn changes(table: &mut Table) -> u64 {
+    for i in 0..STEPS {
+        let set = SigSet::from_bits(i & 1);
+        table.change_thread(LAST, &Own::Mask(set));
+    }
+    STEPS
+}
+
+/// The last thread sets its mask again and again.
+#[inline(never)]
+fn masks(kernel: &mut Kernel) -> u64 {
+    let mut answered: u64 = 0;
+    for i in 0..STEPS {
+        let set = SigSet::from_bits(i & 1);
+        let answer = kernel.step(LAST, Event::Mask { tid: LAST, set });
+        answered = answered.wrapping_add(u64::from(answer.is_ok()));
+    }
+    answered
+}
+
+/// Kills that merge, of the last group.
+#[inline(never)]
+fn last_kills(kernel: &mut Kernel) -> u64 {
+    let set = SigSet::from_bits(1 << 9);
+    let _blocked = kernel.step(LAST, Event::Mask { tid: LAST, set });
+    let _first = kernel.step(SENDER, LAST_KILL);
+    repeat(kernel, LAST_KILL)
+}
+
 fn print(rt: &HostRuntime, name: &str, timing: Timing) -> io::Result<()> {
     println!(rt;
-        "{name:22}{:11.1}{:13.2}{:10}",
+        "{name:22}{:14.1}{:13.2}{:10}",
         timing.nanoseconds, timing.rate, timing.answered
     )
 }

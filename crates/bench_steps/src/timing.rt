@@ -1,8 +1,6 @@
-use crate::starts::kernel;
 use std::io;
 use std::rt::Clock;
 use std::time::Instant;
-use tr_kernel::Kernel;
 
 /// How many steps one round makes.
 pub const STEPS: u64 = 1 << 18;
@@ -18,16 +16,21 @@ pub struct Timing {
     pub answered: u64,
 }
 
-/// Times rounds of `STEPS` steps, each on a new kernel.
-pub fn timed<R: Fn(&mut Kernel) -> u64>(rt: &HostRuntime, steps: R) -> io::Result<Timing>
-    requires { R.IsAlwaysCallable steps }
+/// Times rounds of `STEPS` steps, each on what `new` makes for it.
+pub fn timed<S: Drop, N: Fn() -> io::Result<S>, R: Fn(&mut S) -> u64>(
+    rt: &HostRuntime,
+    new: N,
+    steps: R,
+) -> io::Result<Timing>
+    requires new { N.IsAlwaysCallable new }
+    requires steps { R.IsAlwaysCallable steps }
 {
     let mut quickest = f64::MAX;
     let mut answered: u64 = 0;
     for _ in 0..ROUNDS {
-        let mut kernel = kernel(rt.alloc())?;
+        let mut made = new()?;
         let start = Instant::now(rt)?;
-        answered = steps(&mut kernel);
+        answered = steps(&mut made);
         let seconds = start.elapsed(rt)?.as_secs_f64();
         quickest = quickest.min(seconds);
     }
