@@ -10,7 +10,7 @@ use timing::{STEPS, Timing, timed};
 use tr_kernel::Kernel;
 use tr_model::Event;
 use tr_sigset::SigSet;
-use tr_table::{Own, Table};
+use tr_table::{Table, ThreadChange};
 
 /// A tracer, or another process: no thread of the table.
 const SENDER: u32 = 90_000;
@@ -127,7 +127,7 @@ fn probes(kernel: &mut Kernel) -> u64 {
 fn changes(table: &mut Table) -> u64 {
     for i in 0..STEPS {
         let set = SigSet::from_bits(i & 1);
-        table.change_thread(LAST, &Own::Mask(set));
+        table.change_thread(LAST, &ThreadChange::Mask(set));
     }
     STEPS
 }

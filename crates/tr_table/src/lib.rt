@@ -8,7 +8,6 @@ mod group_list;
 mod groups;
 mod index;
 mod items;
-mod logs;
 mod masks;
 mod members;
 mod membership;
@@ -26,7 +25,6 @@ mod waiting;
 
 pub use groups::GroupChange;
 pub use items::Items;
-pub use logs::Log;
 pub use rows::Rows;
 pub use starts::{GroupStart, Start};
 pub use table::Table;

@@ -5,7 +5,6 @@ ghost use Rattle.tr_model.specs.Sends.{set_at};
 ghost use Rattle.tr_table.specs.Starts.{all_started, group_started, is_good, name_fits, name_of, table_of, thread_started, threads_started, with_actions};
 
 use crate::group_list::Groups;
-use crate::logs::Log;
 use crate::starts::{GroupStart, Start};
 use crate::table::Table;
 use crate::threads::Threads;
@@ -35,7 +34,6 @@ impl Table {
             raised: 0,
             limit: start.limit,
             entries: start.entries,
-            spare: Log::new(alloc),
         })
     }
 }

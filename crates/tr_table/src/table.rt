@@ -3,7 +3,6 @@ ghost use Rattle.tr_model.specs.Journals.{DistinctIds};
 ghost use Rattle.tr_model.specs.Tables.{group_in, thread_in};
 
 use crate::group_list::Groups;
-use crate::logs::Log;
 use crate::threads::Threads;
 use std::alloc::{AllocError, Global};
 use std::marker::Model;
@@ -20,7 +19,6 @@ pub struct Table {
     pub(crate) raised: u64,
     pub(crate) limit: u32,
     pub(crate) entries: u32,
-    pub(crate) spare: Log,
 }
 
 impl Model for Table {

@@ -1,19 +1,5 @@
 use super::*;
 
-/// No clause tells of the places of a log that was given back.
-#[test]
-fn a_log_comes_back_with_its_places(rt: HostRuntime) -> Result<(), Fail> {
-    let mut table = opened(rt.alloc())?;
-    let mut log = table.lend(rt.alloc());
-    log.dying.reserve(40)?;
-    log.dying.push_reserved(100);
-    table.give_back(log);
-    let log = table.lend(rt.alloc());
-    assert!(rt; log.dying.is_empty());
-    assert!(rt; log.dying.capacity() >= 40);
-    Ok(())
-}
-
 /// The table of `open`, made again where memory was refused the first time.
 fn opened_at_last(alloc: Global) -> Result<Table, Fail> {
     let usr1 = signal(10)?;
