@@ -3,14 +3,16 @@
 
 mod starts;
 mod timing;
+mod waits;
 
 use starts::{FIRST, Shape, kernel, table};
 use std::{env, io};
-use timing::{STEPS, Timing, timed};
+use timing::{FEW, STEPS, Timing, timed};
 use tr_kernel::Kernel;
 use tr_model::Event;
 use tr_sigset::SigSet;
 use tr_table::{Table, ThreadChange};
+use waits::{idle_waits, stops, traced};
 
 /// A tracer, or another process: no thread of the table.
 const SENDER: u32 = 90_000;
@@ -47,6 +49,9 @@ fn measure(rt: &HostRuntime) -> io::Result<()> {
         threads: 1,
     };
     print(rt, "kill, merged", stepped(rt, one, merged_kills)?)?;
+    let alloc = rt.alloc();
+    let few = timed(rt, FEW as u32, || kernel(alloc, one), few_merged_kills)?;
+    print(rt, "kill, merged, 4,096", few)?;
     print(
         rt,
         "kill and take in turn",
@@ -68,10 +73,20 @@ fn measure_many(rt: &HostRuntime) -> io::Result<()> {
         threads: 1,
     };
     let alloc = rt.alloc();
-    let records = timed(rt, || table(alloc, wide), changes)?;
+    let records = timed(rt, STEPS as u32, || table(alloc, wide), changes)?;
     print(rt, "a record of 1,024", records)?;
     print(rt, "mask, 1,024 threads", stepped(rt, wide, masks)?)?;
-    print(rt, "kill, 1,024 groups", stepped(rt, many, last_kills)?)
+    print(rt, "kill, 1,024 groups", stepped(rt, many, last_kills)?)?;
+    measure_waits(rt)
+}
+
+/// Waits of the tracer of 1,024 threads.
+fn measure_waits(rt: &HostRuntime) -> io::Result<()> {
+    let alloc = rt.alloc();
+    let last = timed(rt, STEPS as u32, || traced(alloc), stops)?;
+    print(rt, "wait, last of 1,024", last)?;
+    let idle = timed(rt, STEPS as u32, || traced(alloc), idle_waits)?;
+    print(rt, "wait for nothing", idle)
 }
 
 fn stepped<R: Fn(&mut Kernel) -> u64>(
@@ -82,13 +97,13 @@ fn stepped<R: Fn(&mut Kernel) -> u64>(
     requires { R.IsAlwaysCallable steps }
 {
     let alloc = rt.alloc();
-    timed(rt, || kernel(alloc, shape), steps)
+    timed(rt, STEPS as u32, || kernel(alloc, shape), steps)
 }
 
-/// Makes one event again and again; how often it was answered.
-fn repeat(kernel: &mut Kernel, event: Event) -> u64 {
+/// Makes one event so often; how often it was answered.
+fn repeat(kernel: &mut Kernel, event: Event, times: u64) -> u64 {
     let mut answered: u64 = 0;
-    for _ in 0..STEPS {
+    for _ in 0..times {
         answered = answered.wrapping_add(u64::from(kernel.step(SENDER, event).is_ok()));
     }
     answered
@@ -96,10 +111,20 @@ fn repeat(kernel: &mut Kernel, event: Event) -> u64 {
 
 #[inline(never)]
 fn merged_kills(kernel: &mut Kernel) -> u64 {
+    merge(kernel, STEPS)
+}
+
+#[inline(never)]
+fn few_merged_kills(kernel: &mut Kernel) -> u64 {
+    merge(kernel, FEW)
+}
+
+/// Kills that merge with the first.
+fn merge(kernel: &mut Kernel, times: u64) -> u64 {
     let set = SigSet::from_bits(1 << 9);
     let _blocked = kernel.step(10, Event::Mask { tid: 10, set });
     let _first = kernel.step(SENDER, KILL);
-    repeat(kernel, KILL)
+    repeat(kernel, KILL, times)
 }
 
 #[inline(never)]
@@ -114,12 +139,12 @@ fn kills_and_takes(kernel: &mut Kernel) -> u64 {
 
 #[inline(never)]
 fn refused_kills(kernel: &mut Kernel) -> u64 {
-    repeat(kernel, NOBODY)
+    repeat(kernel, NOBODY, STEPS)
 }
 
 #[inline(never)]
 fn probes(kernel: &mut Kernel) -> u64 {
-    repeat(kernel, PROBE)
+    repeat(kernel, PROBE, STEPS)
 }
 
 /// Changes the record of the last thread again and again.
@@ -150,7 +175,7 @@ fn last_kills(kernel: &mut Kernel) -> u64 {
     let set = SigSet::from_bits(1 << 9);
     let _blocked = kernel.step(LAST, Event::Mask { tid: LAST, set });
     let _first = kernel.step(SENDER, LAST_KILL);
-    repeat(kernel, LAST_KILL)
+    repeat(kernel, LAST_KILL, STEPS)
 }
 
 fn print(rt: &HostRuntime, name: &str, timing: Timing) -> io::Result<()> {

@@ -2,7 +2,7 @@ use crate::counts::Count;
 use std::io;
 use std::rt::Clock;
 use std::time::Instant;
-use tr_scenario::{FromReader, ScenarioFault, ToWriter, read, serial};
+use tr_scenario::{FromReader, Job, ScenarioFault, ToWriter, read, serial};
 
 /// How many rounds are timed; the quickest counts.
 const ROUNDS: usize = 50;
@@ -24,8 +24,11 @@ fn no_fault<T>(outcome: Result<T, ScenarioFault>) -> io::Result<T> {
 /// How many calls the steps of a scenario are.
 pub fn calls_of(rt: &HostRuntime, text: &str) -> io::Result<u32> {
     let scenario = no_fault(read(rt.alloc(), text.as_bytes()))?;
+    let Job::Steps(steps) = &scenario.job else {
+        return Err(io::ErrorKind::InvalidData.into());
+    };
     let mut calls: u32 = 0;
-    for step in scenario.steps.as_slice() {
+    for step in steps.as_slice() {
         calls = calls.wrapping_add(step.times);
     }
     Ok(calls)

@@ -12,6 +12,7 @@ use crate::seats::Seat;
 use crate::shares::{Books, Parts, Shares};
 use std::alloc::Global;
 use std::marker::Model;
+use std::mem;
 use tr_kernel::{Answer, Kernel};
 use tr_model::{Event, Refusal};
 
@@ -22,6 +23,8 @@ pub struct Held<E: Parts, A: Parts> {
     kernel: Kernel,
     books: Books<E, A>,
     asked: Vec<Asked>,
+    /// Somebody waits for an entry, and none came since.
+    awaited: bool,
     /// The hub's own part of each ledger, on which nothing stands.
     own: Shares<E, A>,
 }
@@ -69,6 +72,7 @@ impl<E: Parts, A: Parts> Held<E, A> {
             kernel,
             books,
             asked: Vec::new(alloc),
+            awaited: false,
             own,
         }
     }
@@ -87,6 +91,7 @@ impl<E: Parts, A: Parts> Held<E, A> {
             kernel,
             books,
             asked,
+            awaited: _,
             own,
         } = self;
         Opened {
@@ -126,6 +131,20 @@ impl<E: Parts, A: Parts> Held<E, A> {
         keep(&mut self.asked, actor, &event, position, &answer);
         seat.add(&mut self.books, &answer);
         answer
+    }
+
+    /// Notes that the caller is about to wait for an entry.
+    pub(crate) fn await_entry(&mut self)
+        ensures { self.new ≡ self.old }
+    {
+        self.awaited = true;
+    }
+
+    /// Whether this answer tells of an entry that somebody waits for. It is no longer waited for then.
+    pub(crate) fn take_awaited(&mut self, answer: &Answer) -> bool
+        ensures { self.new ≡ self.old }
+    {
+        answer.is_entered() && mem::take(&mut self.awaited)
     }
 }
 

@@ -12,7 +12,7 @@ use crate::waits::WaitCall;
 use std::alloc::Global;
 use std::marker::Model;
 use std::sync::ledger::Blank;
-use std::sync::{Condvar, Mutex, Wait};
+use std::sync::{Condvar, Mutex, MutexGuard, Wait};
 use tr_kernel::{Answer, Kernel};
 use tr_model::{Event, Reply};
 
@@ -92,10 +92,9 @@ impl<E: Parts, A: Parts> Hub<E, A> {
         ensures receipt { IfEntered result (λ r. (r.event ≡ event) × (r.accepted ≤ 1024)) }
         ensures possible { IsTrue (is_kept result) → IsPossible seat.old.actor event result }
     {
-        let answer = self.held.lock(rt).step(seat, event);
-        if answer.is_entered() {
-            self.changed.notify_all();
-        }
+        let mut held = self.held.lock(rt);
+        let answer = held.step(seat, event);
+        self.release(held, &answer);
         answer
     }
 
@@ -121,6 +120,7 @@ impl<E: Parts, A: Parts> Hub<E, A> {
         let mut guard = self.held.lock(rt);
         for turn in 0..turns {
             if turn > 0 {
+                guard.await_entry();
                 guard = self.changed.wait(rt, guard);
             }
             let answer = guard.step(seat, event);
@@ -128,13 +128,21 @@ impl<E: Parts, A: Parts> Hub<E, A> {
                 Answer::Read(_) => {}
                 Answer::Refused(_) => return answer,
                 Answer::Entered(_) => {
-                    drop(guard);
-                    self.changed.notify_all();
+                    self.release(guard, &answer);
                     return answer;
                 }
             }
         }
         Answer::Read(Reply::Nothing)
+    }
+
+    /// Gives the lock back, and wakes all that wait where this answer tells of an entry.
+    fn release(&self, mut held: MutexGuard<'_, Held<E, A>>, answer: &Answer) {
+        let awaited = held.take_awaited(answer);
+        drop(held);
+        if awaited {
+            self.changed.notify_all();
+        }
     }
 
     /// Takes the kernel from behind the lock once all seats are back, with the answers that made no entry.

@@ -1,27 +1,19 @@
 -- What a check says, in its parts.
-use Rattle.std.proofs.Common.{◌≡◌, ◌∙◌, ◌||◌, ◌++◌, ◌∷◌, [], ℕ, List, Bool, true, false, not, if◌then◌else◌, is_some, Option, Some, None, Result, Ok, Err, refl, sym, ap}
+use Rattle.std.proofs.Common.{◌≡◌, ◌∙◌, ℕ, Option, Some, None, Result, Ok, Err, refl, sym, ap}
 use Rattle.std.proofs.lemmas.Option.{same_Some}
-use Rattle.std.specs.List.{list_any}
 use Rattle.tr_model.specs.declared.checked.Checked.{Checked}
 use Rattle.tr_model.specs.declared.checked.Checked.TheVariants.{Due, Quiet}
-use Rattle.tr_model.specs.declared.events.Choice.{Choice}
+use Rattle.tr_model.specs.Choices.{Choice, gives_id, gives_report, takes_by}
 use Rattle.tr_model.specs.declared.events.Event.{Event}
 use Rattle.tr_model.specs.declared.replies.Refusal.{Refusal}
-use Rattle.tr_model.specs.declared.replies.Refusal.TheVariants.{Again}
 use Rattle.tr_model.specs.declared.replies.Reply.{Reply}
-use Rattle.tr_pending.specs.declared.instance.Instance.{Instance}
-use Rattle.tr_tracee.specs.declared.thread.Thread.{Thread}
 use Rattle.tr_model.specs.declared.events.Event.TheVariants.{CloneThread, StarterWait, Take, TakeAny, Wait}
-use Rattle.tr_model.specs.Causes.{at_limit, can_take_thread, cause_of, first_cause, nothing_where, quiet_of, refused_if, script, thread_then}
-use Rattle.tr_model.specs.Steps.{gives_id, gives_report, takes_by, takes_instance}
-use Rattle.tr_model.specs.Takes.{can_take, is_empty}
-use Rattle.tr_model.proofs.Takable.{can_take_best}
+use Rattle.tr_model.specs.Causes.{cause_of, quiet_of}
+use Rattle.tr_model.specs.Compare.{Permits}
 use Rattle.tr_model.specs.Laws.{IsCause}
-use Rattle.tr_model.specs.Preferred.{best_for, check, clone_choice, new_id, preferred, quiet_or, refused_or, reporting, take_any_choice, take_choice, taking, taking_by}
-use Rattle.tr_model.specs.Tables.{Table, members, thread_of}
-use Rattle.tr_model.specs.Waits.{ready, ready_for_starter}
-use Rattle.tr_wait.specs.declared.waits.WaitFlags.{WaitFlags}
-use Rattle.tr_wait.specs.declared.waits.Which.{Which}
+use Rattle.tr_kernel.specs.Private.{IsFixed}
+use Rattle.tr_model.specs.Preferred.{check, preferred, quiet_or, refused_or}
+use Rattle.tr_model.specs.Tables.{Table}
 use Rattle.tr_model.proofs.Causing.{causes_are_causes}
 
 due_same : (x y : Choice) → ◌≡◌ {A = Result Checked Refusal} (Ok (Due x)) (Ok (Due y)) → x ≡ y
@@ -73,59 +65,6 @@ refusals T a e why h = err_parts (cause_of T a e) (quiet_of T a e) (preferred T 
 pub is_cause : (T : Table) (a : ℕ) (e : Event) (why : Refusal) → cause_of T a e ≡ Some why → IsCause why
 is_cause T a e why h = causes_are_causes T a e why h
 
--- A take that isn't quiet has the number of an instance
-
-pub take_numbered : (T : Table) (a id : ℕ) (c : Choice) → quiet_of T a (Take id) ≡ None → c ≡ preferred T a (Take id) → (n : ℕ) × (c ≡ takes_instance n)
-take_numbered T a id c q p = go (thread_of T id) q p
-  where
-    found : (o : Option Instance) (b : Bool) → b ≡ is_some o → nothing_where (not b) ≡ None → c ≡ taking o → (n : ℕ) × (c ≡ takes_instance n)
-    found None true e q p = absurd cc
-    found None false e q p = absurd cc
-    found (Some i) b e q p = (i.n, p)
-
-    go : (o : Option Thread) → nothing_where (not (can_take_thread T o)) ≡ None → c ≡ take_choice T o → (n : ℕ) × (c ≡ takes_instance n)
-    go None q p = absurd cc
-    go (Some t) q p = found (best_for T t) (can_take T t) (can_take_best T t) q p
-
--- A take by any thread that isn't quiet has a thread and the number of an instance
-
-pub take_any_numbered : (T : Table) (a g : ℕ) (c : Choice) → quiet_of T a (TakeAny g) ≡ None → c ≡ preferred T a (TakeAny g) → (id : ℕ) × (n : ℕ) × (c ≡ takes_by id n)
-take_any_numbered T a g c q p = go (members T g) q p
-  where
-    found : (t : Thread) (o : Option Instance) → is_some o ≡ true → c ≡ taking_by t.id o → (id : ℕ) × (n : ℕ) × (c ≡ takes_by id n)
-    found t None e p = cc
-    found t (Some i) e p = (t.id, i.n, p)
-
-    by : (t : Thread) (ts : List Thread) → ((nothing_where (not (list_any (can_take T) ts)) ≡ None) → c ≡ take_any_choice T ts → (id : ℕ) × (n : ℕ) × (c ≡ takes_by id n))
-        → (b : Bool) → can_take T t ≡ b → nothing_where (not (b || list_any (can_take T) ts)) ≡ None → c ≡ (if b then taking_by t.id (best_for T t) else take_any_choice T ts) → (id : ℕ) × (n : ℕ) × (c ≡ takes_by id n)
-    by t ts later true e q p = found t (best_for T t) (sym (can_take_best T t) ∙ e) p
-    by t ts later false e q p = later q p
-
-    go : (ts : List Thread) → nothing_where (not (list_any (can_take T) ts)) ≡ None → c ≡ take_any_choice T ts → (id : ℕ) × (n : ℕ) × (c ≡ takes_by id n)
-    go [] q p = absurd cc
-    go (t ∷ ts) q p = by t ts (go ts) (can_take T t) refl q p
-
--- A clone that isn't refused has an id
-
-pub clone_numbered : (T : Table) (a tid : ℕ) (c : Choice) → cause_of T a (CloneThread tid) ≡ None → c ≡ preferred T a (CloneThread tid) → (id : ℕ) × (c ≡ gives_id id)
-clone_numbered T a tid c q p = go (thread_of T tid) q p
-  where
-    go : (o : Option Thread) → first_cause (thread_then o (λ t. script T t ++ refused_if (at_limit T t) Again ∷ [])) ≡ None → c ≡ clone_choice T o → (id : ℕ) × (c ≡ gives_id id)
-    go None q p = absurd cc
-    go (Some t) q p = (new_id T t.group, p)
-
--- A wait that isn't quiet has a report
-
-reported : (rs : List ℕ) (c : Choice) → nothing_where (is_empty rs) ≡ None → c ≡ reporting rs → (r : ℕ) × (c ≡ gives_report r)
-reported [] c q p = absurd cc
-reported (r ∷ rs) c q p = (r, p)
-
-pub wait_numbered : (T : Table) (a : ℕ) (which : Which) (c : Choice) → quiet_of T a (Wait which) ≡ None → c ≡ preferred T a (Wait which) → (r : ℕ) × (c ≡ gives_report r)
-wait_numbered T a which c q p = reported (ready T a which) c q p
-
-pub starter_numbered : (T : Table) (a : ℕ) (which : Which) (flags : WaitFlags) (c : Choice) → quiet_of T a (StarterWait which flags) ≡ None → c ≡ preferred T a (StarterWait which flags) → (r : ℕ) × (c ≡ gives_report r)
-starter_numbered T a which flags c q p = reported (ready_for_starter T which flags) c q p
-
 -- The fields of a choice
 
 pub same_take_by : (c : Choice) (id n u v : ℕ) → c ≡ takes_by id n → c.thread ≡ Some u → c.instance ≡ Some v → c ≡ takes_by u v
@@ -136,3 +75,16 @@ same_id c id u e f = e ∙ ap gives_id (same_Some id u (sym (ap (λ x. x.new_id)
 
 pub same_report : (c : Choice) (r u : ℕ) → c ≡ gives_report r → c.report ≡ Some u → c ≡ gives_report u
 same_report c r u e f = e ∙ ap gives_report (same_Some r u (sym (ap (λ x. x.report) e) ∙ f))
+
+-- What is due with an admitted choice
+
+due_made : (o : Option Refusal) (q : Option Reply) (c : Choice) → o ≡ None → q ≡ None → refused_or o (quiet_or q c) ≡ Ok (Due c)
+due_made o q c e f = rw (e, f) refl
+
+pub permits_fixed : (T : Table) (a : ℕ) (e : Event) (c : Choice) → Permits T a e c → IsFixed T a e c
+permits_fixed T a (Take id) c p = tt
+permits_fixed T a (TakeAny g) c p = tt
+permits_fixed T a (Wait which) c p = tt
+permits_fixed T a (StarterWait which flags) c p = tt
+permits_fixed T a (CloneThread id) c p = tt
+permits_fixed T a _ c p = due_made _ _ _ p.no_cause p.not_quiet ∙ ap (λ (x : Choice). Ok (Due x)) (sym p.admitted)

@@ -3,7 +3,7 @@ use Rattle.std.proofs.Common.{◌≡◌, ℕ, ◌+◌, ◌-◌, ◌≤◌, List,
 use Rattle.std.proofs.lemmas.Bool.{cases_eq, leb-true}
 use Rattle.std.specs.Prelude.{IsTrue, IfSome, slice_get, nat_le, Bool, true, false, ◌&&◌, if◌then◌else◌}
 use Rattle.tr_model.specs.declared.checked.Checked.TheVariants.{Due}
-use Rattle.tr_model.specs.declared.events.Choice.{Choice}
+use Rattle.tr_model.specs.Choices.{Choice}
 use Rattle.tr_model.specs.declared.events.Entry.{Entry}
 use Rattle.tr_model.specs.declared.events.Event.{Event}
 use Rattle.tr_model.specs.declared.fates.Ending.{Ending}
@@ -14,13 +14,15 @@ use Rattle.tr_model.specs.Laws.{OneFate}
 use Rattle.tr_model.proofs.Consumed.{consumed_once}
 use Rattle.tr_model.proofs.Tally.{fates_agree}
 use Rattle.tr_model.specs.Journals.{HasFate, consumed_by, fate_of, how_many, or_pending, totals, Replay, ended_as, ended_by, held_numbers, numbers_of, occurs, waiting_numbers}
+use Rattle.tr_model.specs.Compare.{Permits}
 use Rattle.tr_model.specs.Preferred.{check, preferred}
 use Rattle.tr_model.specs.Steps.{Admits, Step, after, work_of}
 use Rattle.tr_model.specs.Tables.{Table}
 use Rattle.tr_model.proofs.Bounds.{entries_are_bounded, some_id_is_free}
-use Rattle.tr_model.proofs.Choices.{preferred_is_admitted}
+use Rattle.tr_model.proofs.Admitted.{preferred_is_admitted}
 use Rattle.tr_model.proofs.Live.{AllLive, ended_live}
-use Rattle.tr_model.proofs.OneFate.{occurs-append, one_fate}
+use Rattle.tr_model.proofs.Among.{occurs-append}
+use Rattle.tr_model.proofs.OneFate.{one_fate}
 use Rattle.tr_model.proofs.Ordered.{waiting_is_sorted}
 use Rattle.tr_model.proofs.Runs.{replay_push}
 use Rattle.tr_model.proofs.Standing.{ids_are_distinct}
@@ -28,7 +30,7 @@ use Rattle.tr_table.specs.declared.starts.Start.{Start}
 use Rattle.tr_table.specs.Starts.{is_good, table_of}
 use Rattle.tr_kernel.specs.Fates.{fates_to}
 use Rattle.tr_kernel.specs.Private.{count_of, endings_noted, fates_after, tally}
-use Rattle.tr_kernel.specs.States.{AcceptsFew, IsEntered, IsHistory, State}
+use Rattle.tr_kernel.specs.States.{AcceptsFew, IsEntered, IsHistory, IsMade, State}
 use Rattle.tr_kernel.proofs.Begun.{is_start}
 use Rattle.tr_kernel.proofs.Checks.{dues}
 use Rattle.tr_kernel.proofs.Noted.{endings_noted_is, count_is, fate_kept, grown, length_fates, not_ended}
@@ -81,21 +83,18 @@ tally_is k h = rw (all Pending, all Merged, all Delivered, all Suppressed, all F
 
 -- What is due is a step
 
-pub due_step : (k : State) (a : ℕ) (e : Event) (c : Choice) → IsHistory k → check k.table a e ≡ Ok (Due c)
-    → let x : Entry = record { actor = a; event = e; choice = c } in Step k.table x (after k.table x).reply (after k.table x).work.table
-due_step k a e c h d =
+-- this product's choice is one that the model admits
+pub permits : (k : State) (a : ℕ) (e : Event) (c : Choice) → IsHistory k → check k.table a e ≡ Ok (Due c) → Permits k.table a e c
+permits k a e c h d =
     let z = dues k.table a e c d in
     let s = is_start k.start h.good in
     let T = table_of k.start in
     let admitted : Admits k.table a e (preferred k.table a e) =
     preferred_is_admitted k.table a e (some_id_is_free T k.table k.journal k.replies s h.replayed) (ids_are_distinct T k.table k.journal k.replies s h.replayed) (waiting_is_sorted T k.table k.journal k.replies s h.replayed) z.no_cause z.not_quiet in
-    record {
-      not_refused = z.no_cause;
-      not_quiet = z.not_quiet;
-      choice = subst (λ x. Admits k.table a e x) (sym z.preferred) admitted;
-      reply = refl;
-      table = refl;
-    }
+    record { no_cause = z.no_cause; not_quiet = z.not_quiet; admitted = subst (λ x. Admits k.table a e x) (sym z.preferred) admitted }
+
+due_step : (k : State) (x : Entry) → Permits k.table x.actor x.event x.choice → Step k.table x (after k.table x).reply (after k.table x).work.table
+due_step k x p = record { not_refused = p.no_cause; not_quiet = p.not_quiet; choice = p.admitted; reply = refl; table = refl }
 
 pub accepts_few : (k : State) (x : Entry) (r : Reply) (U : Table) → IsHistory k → Step k.table x r U → AcceptsFew k.table U
 accepts_few k x r U h s =
@@ -156,18 +155,21 @@ history_goes_on k x h s = record {
   fates = fates_go_on k x (after k.table x).reply h s;
 }
 
-pub entered : (k : State) (a : ℕ) (e : Event) (c : Choice) → IsHistory k → check k.table a e ≡ Ok (Due c)
-    → let x : Entry = record { actor = a; event = e; choice = c } in
-    IsEntered k a e (after k.table x).reply (record { start = k.start; table = (work_of k.table x).table; journal = k.journal ++ x ∷ []; replies = k.replies ++ (after k.table x).reply ∷ []; fates = fates_after k.fates (work_of k.table x) })
-entered k a e c h d =
+made : (k : State) (x : Entry) → Permits k.table x.actor x.event x.choice
+    → IsMade k x (after k.table x).reply (record { start = k.start; table = (work_of k.table x).table; journal = k.journal ++ x ∷ []; replies = k.replies ++ (after k.table x).reply ∷ []; fates = fates_after k.fates (work_of k.table x) })
+made k x p = record { step = due_step k x p; start = refl; journal = refl; replies = refl }
+
+-- with this product's choice
+pub entered : (k n : State) (a : ℕ) (e : Event) (c : Choice) (r : Reply) → check k.table a e ≡ Ok (Due c) → IsMade k (record { actor = a; event = e; choice = c }) r n → IsEntered k a e r n
+entered k n a e c r d m =
     let z = dues k.table a e c d in
     let entry : Choice → Entry = λ y. record { actor = a; event = e; choice = y } in
     record {
       no_cause = z.no_cause;
-      step = subst (λ y. Step k.table (entry y) (after k.table (entry c)).reply (work_of k.table (entry c)).table) z.preferred (due_step k a e c h d);
-      start = refl;
-      journal = ap (λ y. k.journal ++ entry y ∷ []) z.preferred;
-      replies = refl;
+      step = subst (λ y. Step k.table (entry y) r n.table) z.preferred m.step;
+      start = m.start;
+      journal = subst (λ y. n.journal ≡ k.journal ++ entry y ∷ []) z.preferred m.journal;
+      replies = m.replies;
     }
 
 -- What an entry leaves, field by field
@@ -186,17 +188,14 @@ left_by k x = record { start = k.start; table = (work_of k.table x).table; journ
 left_is : (k : State) (x : Entry) (r : Reply) (n : State) → IsWritten k x r n → left_by k x ≡ n
 left_is k x r n w = rw (← w.fates, ← w.start, ← w.table, ← w.reply, ← w.journal, ← w.replies) refl
 
-pub written_history : (k : State) (x : Entry) (r : Reply) (n : State) → IsHistory k → check k.table x.actor x.event ≡ Ok (Due x.choice) → IsWritten k x r n → IsHistory n
-written_history k x r n h d w = subst IsHistory (left_is k x r n w) (history_goes_on k x h (due_step k x.actor x.event x.choice h d))
+pub written_history : (k : State) (x : Entry) (r : Reply) (n : State) → IsHistory k → Permits k.table x.actor x.event x.choice → IsWritten k x r n → IsHistory n
+written_history k x r n h d w = subst IsHistory (left_is k x r n w) (history_goes_on k x h (due_step k x d))
 
-pub written_entered : (k : State) (x : Entry) (r : Reply) (n : State) → IsHistory k → check k.table x.actor x.event ≡ Ok (Due x.choice) → IsWritten k x r n → IsEntered k x.actor x.event r n
-written_entered k x r n h d w = subst (λ q. IsEntered k x.actor x.event q n) (sym w.reply) (subst (IsEntered k x.actor x.event (after k.table x).reply) (left_is k x r n w) (entered k x.actor x.event x.choice h d))
+pub written_made : (k : State) (x : Entry) (r : Reply) (n : State) → Permits k.table x.actor x.event x.choice → IsWritten k x r n → IsMade k x r n
+written_made k x r n d w = subst (λ q. IsMade k x q n) (sym w.reply) (subst (IsMade k x (after k.table x).reply) (left_is k x r n w) (made k x d))
 
-pub few_after : (k : State) (x : Entry) → IsHistory k → check k.table x.actor x.event ≡ Ok (Due x.choice) → AcceptsFew k.table (work_of k.table x).table
-few_after k x h d = accepts_few k x (after k.table x).reply (work_of k.table x).table h (due_step k x.actor x.event x.choice h d)
-
-pub written_few : (k : State) (x : Entry) (r : Reply) (n : State) → IsHistory k → check k.table x.actor x.event ≡ Ok (Due x.choice) → IsWritten k x r n → AcceptsFew k.table n.table
-written_few k x r n h d w = subst (AcceptsFew k.table) (sym w.table) (few_after k x h d)
+pub few_after : (k : State) (x : Entry) → IsHistory k → Permits k.table x.actor x.event x.choice → AcceptsFew k.table (work_of k.table x).table
+few_after k x h d = accepts_few k x (after k.table x).reply (work_of k.table x).table h (due_step k x d)
 
 pub few_same : (T : Table) → AcceptsFew T T
 few_same T = record { grows = omega arith; few = omega arith }

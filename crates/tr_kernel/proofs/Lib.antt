@@ -1,5 +1,5 @@
 pub mod Begun
-pub mod Bumped
+pub mod Transfers
 pub mod Called
 pub mod Checks
 pub mod Cuts
@@ -13,4 +13,8 @@ pub mod Ordered
 pub mod Positions
 pub mod Refusals
 pub mod Restarted
+pub mod Spread
+pub mod Tallied
+pub mod Told
 pub mod Waited
+pub mod Heard

@@ -155,7 +155,7 @@ fate_kept T U es n h = go (nat_le n U.accepted) refl
 
 -- How many
 
-count_append : (f : Fate) (xs ys : List Fate) → count_of f (xs ++ ys) ≡ count_of f xs + count_of f ys
+pub count_append : (f : Fate) (xs ys : List Fate) → count_of f (xs ++ ys) ≡ count_of f xs + count_of f ys
 count_append f xs ys = ap length (filter-append (same_fate f) xs ys) ∙ length-append (filter (same_fate f) xs) (filter (same_fate f) ys)
 
 fates_snoc : (E : List Ending) (n k : ℕ) → fates_from E n (suc k) ≡ fates_from E n k ++ or_pending (ended_as E (n + k)) ∷ []

@@ -6,13 +6,13 @@ use Rattle.tr_model.specs.declared.events.Entry.{Entry}
 use Rattle.tr_model.specs.Journals.{IsIn, renamed_by}
 use Rattle.tr_model.specs.Steps.{work_of}
 use Rattle.tr_model.specs.Tables.{Table}
-use Rattle.tr_kernel.specs.declared.notes.Mark.{Mark}
-use Rattle.tr_kernel.specs.declared.notes.Mark.TheVariants.{Nothing}
+use Rattle.tr_kernel.specs.declared.notes.EntryFact.{EntryFact}
+use Rattle.tr_kernel.specs.declared.notes.EntryFact.TheVariants.{Nothing}
 use Rattle.tr_kernel.specs.declared.notes.Note.{Note}
 use Rattle.tr_kernel.specs.Laws.{KillsAt}
-use Rattle.tr_kernel.specs.Notes.{dying_by, is_some_group, mark_of, note_of, notes_from, notes_of}
+use Rattle.tr_kernel.specs.Notes.{dying_by, is_some_group, fact_of, note_of, notes_from, notes_of}
 use Rattle.tr_kernel.specs.Positions.{table_at}
-use Rattle.tr_kernel.specs.Private.{AreOrdered, deaths_in, deaths_to, killed_in, mark_at, mark_in}
+use Rattle.tr_kernel.specs.Private.{AreOrdered, deaths_in, deaths_to, killed_in, fact_at, fact_in}
 use Rattle.tr_kernel.proofs.Cuts.{some_there}
 
 note_there : (T : Table) (ids : List ℕ) (d : ℕ) (es : List Entry) (k : ℕ) (e : Entry) → slice_get es k ≡ Some e
@@ -35,16 +35,16 @@ pub note_is : (T : Table) (es : List Entry) (k : ℕ) (e : Entry) → slice_get 
     → slice_get (notes_of T es) k ≡ Some (note_of (renamed_by T (take k es)) (length (dying_by T (take k es))) (table_at T es k) e)
 note_is T es k e q = note_there T [] 0 es k e q ∙ ap (λ d. Some (note_of (renamed_by T (take k es)) d (table_at T es k) e)) (omega arith)
 
-pub mark_is : (T : Table) (es : List Entry) (k : ℕ) (e : Entry) → slice_get es k ≡ Some e → mark_at (notes_of T es) (suc k) ≡ mark_of (renamed_by T (take k es)) (table_at T es k) e.actor e.event e.choice
-mark_is T es k e q = ap mark_in (note_is T es k e q)
+pub mark_is : (T : Table) (es : List Entry) (k : ℕ) (e : Entry) → slice_get es k ≡ Some e → fact_at (notes_of T es) (suc k) ≡ fact_of (renamed_by T (take k es)) (table_at T es k) e.actor e.event e.choice
+mark_is T es k e q = ap fact_in (note_is T es k e q)
 
--- a mark other than Nothing stands at an entry
-pub marked_there : (T : Table) (es : List Entry) (p : ℕ) (m : Mark) → mark_at (notes_of T es) p ≡ m → (Nothing ≡ m → ⊥) → (k : ℕ) × (e : Entry) × (p ≡ suc k) × (slice_get es k ≡ Some e)
+-- a fact other than Nothing stands at an entry
+pub marked_there : (T : Table) (es : List Entry) (p : ℕ) (m : EntryFact) → fact_at (notes_of T es) p ≡ m → (Nothing ≡ m → ⊥) → (k : ℕ) × (e : Entry) × (p ≡ suc k) × (slice_get es k ≡ Some e)
 marked_there T es zero m q n = absurd (n q)
 marked_there T es (suc k) m q n = go (slice_get es k) refl
   where
     go : (o : Option Entry) → slice_get es k ≡ o → (k' : ℕ) × (e : Entry) × (suc k ≡ suc k') × (slice_get es k' ≡ Some e)
-    go None h = absurd (n (sym (ap mark_in (no_note T [] 0 es k h)) ∙ q))
+    go None h = absurd (n (sym (ap fact_in (no_note T [] 0 es k h)) ∙ q))
     go (Some e) h = (k, e, refl, h)
 
 pub length_notes : (T : Table) (ids : List ℕ) (d : ℕ) (es : List Entry) → length (notes_from ids d T es) ≡ length es

@@ -1,8 +1,6 @@
 -- The notes of one entry more.
-use Rattle.std.proofs.Common.{suc, ◌≡◌, ℕ, ◌+◌, ◌<◌, ◌≤◌, ◌^◌, List, [], ◌∷◌, ◌++◌, length, Ok, Some, refl, sym, ap, ap₂, ◌∙◌, subst, arith, append_assoc, append-nil, length-append, Bool, true, false, ◌==◌, if◌then◌else◌}
-use Rattle.tr_pending.specs.Waiting.{best_of}
-use Rattle.tr_model.specs.declared.checked.Checked.TheVariants.{Due}
-use Rattle.tr_model.specs.declared.events.Choice.{Choice}
+use Rattle.std.proofs.Common.{suc, ◌≡◌, ℕ, ◌+◌, ◌<◌, ◌≤◌, ◌^◌, List, [], ◌∷◌, ◌++◌, length, refl, sym, ap, ap₂, ◌∙◌, subst, arith, append_assoc, append-nil, length-append, Bool, true, false, ◌==◌, if◌then◌else◌}
+use Rattle.tr_model.specs.Choices.{Choice}
 use Rattle.tr_model.specs.declared.events.Entry.{Entry}
 use Rattle.tr_model.specs.declared.events.Event.{Event}
 use Rattle.tr_model.specs.declared.events.Event.TheVariants as event
@@ -10,65 +8,54 @@ use Rattle.tr_model.specs.declared.replies.Reply.{Reply}
 use Rattle.tr_model.specs.declared.replies.Reply.TheVariants as reply
 use Rattle.tr_model.specs.declared.rows.Target.{Target}
 use Rattle.tr_model.specs.declared.rows.Target.TheVariants as target
-use Rattle.tr_model.specs.Journals.{DistinctIds, IsSorted, Replay, occurs, queue_of, renamed_by, taken_by, taken_of}
+use Rattle.tr_model.specs.Journals.{IsSorted, Replay, occurs, queue_of, renamed_by, taken_by, taken_of}
 use Rattle.tr_model.specs.Moves.{instance_in}
-use Rattle.tr_model.specs.Preferred.{check}
+use Rattle.tr_model.specs.Compare.{Permits}
 use Rattle.tr_model.specs.Steps
-use Rattle.tr_model.specs.Steps.{after, takes_by, takes_instance, work_of}
-use Rattle.tr_model.specs.Tables.{Table, queue, thread_of}
+use Rattle.tr_model.specs.Steps.{Admits, after, work_of}
+use Rattle.tr_model.specs.Tables.{Table, thread_of}
 use Rattle.tr_model.specs.Takes
-use Rattle.tr_model.proofs.OneFate.{occurs-append}
+use Rattle.tr_model.proofs.Among.{occurs-append}
 use Rattle.tr_model.proofs.Ordered.{waiting_is_sorted}
-use Rattle.tr_model.proofs.Standing.{ids_are_distinct}
-use Rattle.tr_model.proofs.Takable.{best_is_chosen}
-use Rattle.tr_signals.proofs.Taking.{IsDue, is_due}
-use Rattle.tr_signals.proofs.TakingAny.{is_due_any}
+use Rattle.tr_signals.proofs.Chosen.{chosen_is}
+use Rattle.tr_signals.proofs.Taking.{IsDue, due_with}
 use Rattle.tr_table.specs.Starts.{table_of}
-use Rattle.tr_kernel.specs.declared.notes.Mark.TheVariants.{Nothing, Take}
+use Rattle.tr_kernel.specs.declared.notes.EntryFact.TheVariants.{Nothing, Take}
 use Rattle.tr_kernel.specs.declared.notes.Note.{Note}
-use Rattle.tr_kernel.specs.declared.notes.Passed.{Passed}
-use Rattle.tr_kernel.specs.Notes.{IsNoted, dying_by, is_some_group, mark_of, note_of, notes_from, notes_of, passes, take_mark, times}
-use Rattle.tr_kernel.specs.Private.{PassOn, mark_after, mark_before, noted, passes_in}
+use Rattle.tr_kernel.specs.declared.notes.IdTransfer.{IdTransfer}
+use Rattle.tr_kernel.specs.Notes.{IsNoted, dying_by, is_some_group, fact_of, note_of, notes_from, notes_of, transfers_of, take_fact, times}
+use Rattle.tr_kernel.specs.Private.{AreTransferred, fact_after, fact_before, noted, transfers_in}
 use Rattle.tr_kernel.specs.States.{IsHistory, State}
 use Rattle.tr_kernel.proofs.Begun.{is_start}
-use Rattle.tr_kernel.proofs.Checks.{dues, take_any_numbered, take_numbered}
 use Rattle.tr_kernel.proofs.Logs.{renames_few}
 
--- The mark of a take
+-- The fact of a take
 
-passes_same : (ids : List ℕ) (ps : List Passed) → ((n : ℕ) → times n ps ≡ occurs n ids) → (q : Target) → passes_in ps q ≡ passes ids q
+passes_same : (ids : List ℕ) (ps : List IdTransfer) → ((n : ℕ) → times n ps ≡ occurs n ids) → (q : Target) → transfers_in ps q ≡ transfers_of ids q
 passes_same ids ps h (target.Thread id) = h id
 passes_same ids ps h (target.Group g) = refl
 
-take_marked : (T : Table) (ids : List ℕ) (ps : List Passed) → ((n : ℕ) → times n ps ≡ occurs n ids) → IsSorted T.waiting → (id n : ℕ) → IsDue T id n
-    → mark_after Nothing (queue_of (taken_by T (thread_of T id) n)) ps (Steps.took_reply T (thread_of T id) (instance_in T.waiting n)) ≡ take_mark ids (taken_by T (thread_of T id) n)
+take_marked : (T : Table) (ids : List ℕ) (ps : List IdTransfer) → ((n : ℕ) → times n ps ≡ occurs n ids) → IsSorted T.waiting → (id n : ℕ) → IsDue T id n
+    → fact_after Nothing (queue_of (taken_by T (thread_of T id) n)) ps (Steps.took_reply T (thread_of T id) (instance_in T.waiting n)) ≡ take_fact ids (taken_by T (thread_of T id) n)
 take_marked T ids ps h s id n d =
-    let b = best_is_chosen T d.thread d.instance s d.best in
-    let i : instance_in T.waiting n ≡ Some d.instance = ap (instance_in T.waiting) (sym d.number) ∙ b.waits in
-    let k = ap (λ o. taken_by T o n) d.there ∙ (ap (taken_by T (Some d.thread)) (sym d.number) ∙ b.taken) in
-    let r : Steps.took_reply T (thread_of T id) (instance_in T.waiting n) ≡ reply.Took d.thread.id d.instance (Takes.did_at_take T d.thread d.instance) = ap₂ (Steps.took_reply T) d.there i in
-    let q = Takes.taken_from (best_of d.thread.mask (queue T (target.Thread d.thread.id))) d.thread in
-    ap₂ (λ x o. mark_after Nothing (queue_of o) ps x) r k
-    ∙ (ap (λ p. Take (record { number = d.instance.n; signal = d.instance.sig; queue = q; passed = p })) (passes_same ids ps h q) ∙ sym (ap (take_mark ids) k))
+    let b = chosen_is T d.thread n d.instance s d.chosen in
+    let k = ap (λ o. taken_by T o n) d.there ∙ b.taken in
+    let r : Steps.took_reply T (thread_of T id) (instance_in T.waiting n) ≡ reply.Took d.thread.id d.instance (Takes.did_at_take T d.thread d.instance) = ap₂ (Steps.took_reply T) d.there b.waits in
+    ap₂ (λ x o. fact_after Nothing (queue_of o) ps x) r k
+    ∙ (ap (λ p. Take (record { number = d.instance.n; signal = d.instance.sig; queue = b.from; transfers = p })) (passes_same ids ps h b.from) ∙ sym (ap (take_fact ids) k))
 
-marked : (T : Table) (ids : List ℕ) (ps : List Passed) → ((n : ℕ) → times n ps ≡ occurs n ids) → IsSorted T.waiting → DistinctIds T → (e : Entry) → check T e.actor e.event ≡ Ok (Due e.choice)
-    → mark_after (mark_before T e.actor e.event e.choice) (queue_of (taken_of T e.event e.choice)) ps (after T e).reply ≡ mark_of ids T e.actor e.event e.choice
-marked T ids ps h s u e d = go e.event e.choice d
+marked : (T : Table) (ids : List ℕ) (ps : List IdTransfer) → ((n : ℕ) → times n ps ≡ occurs n ids) → IsSorted T.waiting → (e : Entry) → Permits T e.actor e.event e.choice
+    → fact_after (fact_before T e.actor e.event e.choice) (queue_of (taken_of T e.event e.choice)) ps (after T e).reply ≡ fact_of ids T e.actor e.event e.choice
+marked T ids ps h s e d = go e.event e.choice d.admitted
   where
-    go : (x : Event) (c : Choice) → check T e.actor x ≡ Ok (Due c)
-        → mark_after (mark_before T e.actor x c) (queue_of (taken_of T x c)) ps (Steps.reply_of T e.actor x c (work_of T (record { actor = e.actor; event = x; choice = c }))) ≡ mark_of ids T e.actor x c
-    go (event.Take id) c q =
-        let p = dues T e.actor (event.Take id) c q in
-        let m = take_numbered T e.actor id c p.not_quiet p.preferred in
-        rw (m.1) (take_marked T ids ps h s id m.0 (is_due T e.actor id m.0 (subst (λ z. check T e.actor (event.Take id) ≡ Ok (Due z)) m.1 q)))
-    go (event.TakeAny g) c q =
-        let p = dues T e.actor (event.TakeAny g) c q in
-        let m = take_any_numbered T e.actor g c p.not_quiet p.preferred in
-        rw (m.2) (take_marked T ids ps h s m.0 m.1 (is_due_any T e.actor g m.0 m.1 u (subst (λ z. check T e.actor (event.TakeAny g) ≡ Ok (Due z)) m.2 q)))
+    go : (x : Event) (c : Choice) → Admits T e.actor x c
+        → fact_after (fact_before T e.actor x c) (queue_of (taken_of T x c)) ps (Steps.reply_of T e.actor x c (work_of T (record { actor = e.actor; event = x; choice = c }))) ≡ fact_of ids T e.actor x c
+    go (event.Take id) c q = rw (q.1) (take_marked T ids ps h s id q.0 (due_with T id q.0 q.2))
+    go (event.TakeAny g) c q = rw (q.2) (take_marked T ids ps h s q.0 q.1 (due_with T q.0 q.1 q.4))
     go x c q = refl
 
-noted_is : (T : Table) (ids : List ℕ) (ps : List Passed) → ((n : ℕ) → times n ps ≡ occurs n ids) → IsSorted T.waiting → DistinctIds T → (deaths : ℕ) (e : Entry) → check T e.actor e.event ≡ Ok (Due e.choice) → noted ps deaths T e ≡ note_of ids deaths T e
-noted_is T ids ps h s u deaths e d = ap (λ m. record { mark = m; killed = is_some_group (work_of T e).killed; deaths = deaths + length (work_of T e).dying }) (marked T ids ps h s u e d)
+noted_is : (T : Table) (ids : List ℕ) (ps : List IdTransfer) → ((n : ℕ) → times n ps ≡ occurs n ids) → IsSorted T.waiting → (deaths : ℕ) (e : Entry) → Permits T e.actor e.event e.choice → noted ps deaths T e ≡ note_of ids deaths T e
+noted_is T ids ps h s deaths e d = ap (λ m. record { fact = m; killed = is_some_group (work_of T e).killed; deaths = deaths + length (work_of T e).dying }) (marked T ids ps h s e d)
 
 -- Notes of a longer journal
 
@@ -118,29 +105,28 @@ few_pass T id (e ∷ es) =
     let w = work_of T e in
     omega (arith, occurs-append id w.renamed (renamed_by w.table es), few_pass w.table id es, few_occurs id w.renamed, renames_few T e)
 
-pub few_times : (T : Table) (es : List Entry) (ns : List Note) (gs : List ℕ) (ps : List Passed) → IsNoted T es ns gs ps → length es < 2 ^ 32 → (id : ℕ) → times id ps < 2 ^ 32
-few_times T es ns gs ps n l id = omega (arith, few_pass T id es, n.passed id, l)
+pub few_times : (T : Table) (es : List Entry) (ns : List Note) (gs : List ℕ) (ps : List IdTransfer) → IsNoted T es ns gs ps → length es < 2 ^ 32 → (id : ℕ) → times id ps < 2 ^ 32
+few_times T es ns gs ps n l id = omega (arith, few_pass T id es, n.transfers id, l)
 
 -- One entry more
 
 pub noted_begins : (T : Table) → IsNoted T [] [] [] []
-noted_begins T = record { notes = refl; dying = refl; passed = λ id. refl }
+noted_begins T = record { notes = refl; dying = refl; transfers = λ id. refl }
 
-pub noted_goes_on : (k : State) (x : Entry) (ns : List Note) (gs : List ℕ) (ps qs : List Passed) → IsHistory k → IsNoted (table_of k.start) k.journal ns gs ps → check k.table x.actor x.event ≡ Ok (Due x.choice)
-    → PassOn (work_of k.table x).renamed ps qs
+pub noted_goes_on : (k : State) (x : Entry) (ns : List Note) (gs : List ℕ) (ps qs : List IdTransfer) → IsHistory k → IsNoted (table_of k.start) k.journal ns gs ps → Permits k.table x.actor x.event x.choice
+    → AreTransferred (work_of k.table x).renamed ps qs
     → IsNoted (table_of k.start) (k.journal ++ x ∷ []) (ns ++ noted ps (length gs) k.table x ∷ []) (gs ++ (work_of k.table x).dying) qs
 noted_goes_on k x ns gs ps qs h n d more =
     let T = table_of k.start in
     let start = is_start k.start h.good in
     let sorted = waiting_is_sorted T k.table k.journal k.replies start h.replayed in
-    let distinct = ids_are_distinct T k.table k.journal k.replies start h.replayed in
     let one : noted ps (length gs) k.table x ≡ note_of (renamed_by T k.journal) (length (dying_by T k.journal)) k.table x
-    = noted_is k.table (renamed_by T k.journal) ps n.passed sorted distinct (length gs) x d ∙ ap (λ y. note_of (renamed_by T k.journal) (length y) k.table x) n.dying in
+    = noted_is k.table (renamed_by T k.journal) ps n.transfers sorted (length gs) x d ∙ ap (λ y. note_of (renamed_by T k.journal) (length y) k.table x) n.dying in
     record {
       notes = ap₂ (λ xs y. xs ++ y ∷ []) n.notes one ∙ sym (all_notes_push T k.table k.journal k.replies x h.replayed);
       dying = ap (λ y. y ++ (work_of k.table x).dying) n.dying ∙ sym (dying_push T k.table k.journal k.replies x h.replayed);
-      passed = λ id.
+      transfers = λ id.
           more.counts id
-          ∙ (ap (λ a. a + occurs id (work_of k.table x).renamed) (n.passed id)
+          ∙ (ap (λ a. a + occurs id (work_of k.table x).renamed) (n.transfers id)
           ∙ (sym (occurs-append id (renamed_by T k.journal) (work_of k.table x).renamed) ∙ ap (occurs id) (sym (renamed_push T k.table k.journal k.replies x h.replayed))));
     }

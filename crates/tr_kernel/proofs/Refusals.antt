@@ -1,14 +1,14 @@
 -- What a check refuses is a cause, and the only one.
-use Rattle.std.proofs.Common.{◌≡◌, ◌<◌, ℕ, Some, Ok, Err, length, refl, sym, ◌∙◌}
+use Rattle.std.proofs.Common.{◌≡◌, ℕ, Some, Ok, Err, refl, sym, ◌∙◌}
 use Rattle.std.proofs.lemmas.Option.{same_Some}
 use Rattle.tr_model.specs.declared.checked.Checked.TheVariants.{Due}
-use Rattle.tr_model.specs.declared.events.Choice.{Choice}
+use Rattle.tr_model.specs.Choices.{Choice}
 use Rattle.tr_model.specs.declared.events.Event.{Event}
 use Rattle.tr_model.specs.declared.replies.Refusal.{Refusal}
 use Rattle.tr_model.specs.declared.replies.Refusal.TheVariants.{Perm, Srch, Io, Child, Again, NoMemory, Inval, Busy, NotDue, NotRunning, Unmodelled, ThreadedExec, JournalFull}
 use Rattle.tr_model.specs.Causes.{cause_of}
 use Rattle.tr_model.specs.Preferred.{check}
-use Rattle.tr_kernel.specs.States.{IsRefusal, State}
+use Rattle.tr_kernel.specs.States.{IsRefusal, IsWithheld, State}
 use Rattle.tr_kernel.proofs.Checks.{dues, is_cause, refusals}
 
 pub refusal : (k : State) (a : ℕ) (e : Event) (why : Refusal) → check k.table a e ≡ Err why → IsRefusal k a e why
@@ -29,6 +29,8 @@ refusal k a e JournalFull h = absurd ((is_cause k.table a e JournalFull (refusal
 pub only_cause : (k : State) (a : ℕ) (e : Event) (found : Refusal) → check k.table a e ≡ Err found → (why : Refusal) → cause_of k.table a e ≡ Some why → found ≡ why
 only_cause k a e found h why r = same_Some found why (sym (refusals k.table a e found h) ∙ r)
 
--- want of memory comes where an entry is due and the journal isn't full
-pub want_of_memory : (k : State) (a : ℕ) (e : Event) (c : Choice) (why : Refusal) → check k.table a e ≡ Ok (Due c) → length k.journal < k.table.entries → why ≡ NoMemory → IsRefusal k a e why
-want_of_memory k a e c why h f m = let d = dues k.table a e c h in rw m (record { no_cause = d.no_cause; not_quiet = d.not_quiet }, f)
+-- what is due and isn't made is refused so
+pub withheld : (k : State) (a : ℕ) (e : Event) (c : Choice) (why : Refusal) → check k.table a e ≡ Ok (Due c) → IsWithheld k why → IsRefusal k a e why
+withheld k a e c JournalFull h f = let d = dues k.table a e c h in (record { no_cause = d.no_cause; not_quiet = d.not_quiet }, f)
+withheld k a e c NoMemory h f = let d = dues k.table a e c h in (record { no_cause = d.no_cause; not_quiet = d.not_quiet }, f)
+withheld k a e c _ h f = absurd f

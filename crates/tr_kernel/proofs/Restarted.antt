@@ -8,7 +8,7 @@ use Rattle.tr_wait.specs.declared.status.Status.{Status}
 use Rattle.tr_wait.specs.declared.status.Status.TheVariants as status
 use Rattle.tr_tracee.specs.declared.thread.Report.{Report}
 use Rattle.tr_tracee.specs.declared.thread.Thread.{Thread}
-use Rattle.tr_model.specs.declared.events.Choice.{Choice}
+use Rattle.tr_model.specs.Choices.{Choice}
 use Rattle.tr_model.specs.declared.events.Entry.{Entry}
 use Rattle.tr_model.specs.declared.events.Event.{Event}
 use Rattle.tr_model.specs.declared.events.Event.TheVariants as event
@@ -20,14 +20,14 @@ use Rattle.tr_model.specs.Waits.{ready_thread}
 use Rattle.tr_model.proofs.Between.{restart_stands}
 use Rattle.tr_table.specs.Starts.{table_of}
 use Rattle.tr_wait.specs.declared.waits.Which.{Which}
-use Rattle.tr_kernel.specs.declared.notes.Mark.{Mark}
-use Rattle.tr_kernel.specs.declared.notes.Mark.TheVariants.{Nothing, Stop, Take, Exec}
+use Rattle.tr_kernel.specs.declared.notes.EntryFact.{EntryFact}
+use Rattle.tr_kernel.specs.declared.notes.EntryFact.TheVariants.{Nothing, Stop, Take, Exec}
 use Rattle.tr_kernel.specs.declared.notes.Stopped.{Stopped}
 use Rattle.tr_kernel.specs.declared.notes.TakenFrom.{TakenFrom}
 use Rattle.tr_kernel.specs.Laws.{RestartBetween, RestartsAt, StopsAt, TwoStops}
-use Rattle.tr_kernel.specs.Notes.{dying_by, exec_mark, is_stop_status, mark_of, notes_of, shows_stop, stop_mark, take_mark}
+use Rattle.tr_kernel.specs.Notes.{dying_by, exec_fact, is_stop_status, fact_of, notes_of, shows_stop, stop_fact, take_fact}
 use Rattle.tr_kernel.specs.Positions.{entry_at, table_at}
-use Rattle.tr_kernel.specs.Private.{IsRestartAt, dying_at, is_exec_in, is_restart, mark_at, restarts_at, restarts_here}
+use Rattle.tr_kernel.specs.Private.{IsRestartAt, dying_at, is_exec_in, is_restart, fact_at, restarts_at, restarts_here}
 use Rattle.tr_kernel.specs.States.{IsHistory, State}
 use Rattle.tr_kernel.proofs.Begun.{is_start}
 use Rattle.tr_kernel.proofs.Cuts.{cut, dying_there, get_drop, get_take, replay_between, some_there, table_drop, table_take}
@@ -48,7 +48,7 @@ same_stop s r e = cc
 abbrev as_stopped : Thread → Stopped
 as_stopped t = record { thread = t.id; group = t.group }
 
--- The mark of an entry is a stop exactly where the entry consumed a stop report
+-- The fact of an entry is a stop exactly where the entry consumed a stop report
 
 status_stops : (s : Status) → is_stop_status s ≡ true → IsStopStatus s
 status_stops (status.Exited c) e = absurd (true≢false (sym e))
@@ -66,7 +66,7 @@ report_stops : (o : Option Report) → shows_stop o ≡ true → (x : Report) ×
 report_stops None e = absurd (true≢false (sym e))
 report_stops (Some x) e = (x, refl, status_stops x.status e)
 
-stop_some : (o : Option Thread) (s : Stopped) → stop_mark o ≡ Stop s → (t : Thread) × (o ≡ Some t) × (shows_stop t.report ≡ true) × (s ≡ as_stopped t)
+stop_some : (o : Option Thread) (s : Stopped) → stop_fact o ≡ Stop s → (t : Thread) × (o ≡ Some t) × (shows_stop t.report ≡ true) × (s ≡ as_stopped t)
 stop_some None s q = absurd (nothing_stop s q)
 stop_some (Some t) s q = go (shows_stop t.report) refl q
   where
@@ -74,11 +74,11 @@ stop_some (Some t) s q = go (shows_stop t.report) refl q
     go true h r = (t, refl, h, sym (same_stop (as_stopped t) s r))
     go false h r = absurd (nothing_stop s r)
 
-takes_no_stop : (ids : List ℕ) (o : Option Taken) (s : Stopped) → take_mark ids o ≡ Stop s → ⊥
+takes_no_stop : (ids : List ℕ) (o : Option Taken) (s : Stopped) → take_fact ids o ≡ Stop s → ⊥
 takes_no_stop ids None s q = nothing_stop s q
 takes_no_stop ids (Some k) s q = take_stop _ s q
 
-execs_no_stop : (o : Option Thread) (s : Stopped) → exec_mark o ≡ Stop s → ⊥
+execs_no_stop : (o : Option Thread) (s : Stopped) → exec_fact o ≡ Stop s → ⊥
 execs_no_stop None s q = nothing_stop s q
 execs_no_stop (Some t) s q = exec_stop t.group s q
 
@@ -91,7 +91,7 @@ record Waits (T : Table) (a : ℕ) (e : Event) (c : Choice) (s : Stopped) : Type
   shows : shows_stop thread.report ≡ true
   stopped : s ≡ as_stopped thread
 
-mark_stops : (ids : List ℕ) (T : Table) (a : ℕ) (e : Event) (c : Choice) (s : Stopped) → mark_of ids T a e c ≡ Stop s → Waits T a e c s
+mark_stops : (ids : List ℕ) (T : Table) (a : ℕ) (e : Event) (c : Choice) (s : Stopped) → fact_of ids T a e c ≡ Stop s → Waits T a e c s
 mark_stops ids T a (event.Wait which) c s q = let t = stop_some (ready_thread T a which (number c.report)) s q in record { which = which; thread = t.0; wait = refl; ready = t.1; shows = t.2; stopped = t.3 }
 mark_stops ids T a (event.Take id) c s q = absurd (takes_no_stop ids (taken_of T (event.Take id) c) s q)
 mark_stops ids T a (event.TakeAny g) c s q = absurd (takes_no_stop ids (taken_of T (event.TakeAny g) c) s q)
@@ -107,11 +107,11 @@ consumes T e s h w =
     let x = report_stops w.thread.report w.shows in
     (w.thread, (w.which, r.0, x.0, w.wait, r.1, subst (λ o. ready_thread T e.actor w.which (number o) ≡ Some w.thread) r.1 w.ready, x.1, x.2), w.stopped)
 
-stops_mark : (ids : List ℕ) (T : Table) (e : Entry) (t : Thread) → ConsumesStop T e t → mark_of ids T e.actor e.event e.choice ≡ Stop (as_stopped t)
+stops_mark : (ids : List ℕ) (T : Table) (e : Entry) (t : Thread) → ConsumesStop T e t → fact_of ids T e.actor e.event e.choice ≡ Stop (as_stopped t)
 stops_mark ids T e t (which, r, x, wait, report, ready, has, stops) =
     let o : ready_thread T e.actor which (number e.choice.report) ≡ Some t = ap (λ o. ready_thread T e.actor which (number o)) report ∙ ready in
     let b : shows_stop t.report ≡ true = ap shows_stop has ∙ stops_status x.status stops in
-    ap (λ v. mark_of ids T e.actor v e.choice) wait ∙ (ap stop_mark o ∙ ap (λ v. if v then Stop (as_stopped t) else Nothing) b)
+    ap (λ v. fact_of ids T e.actor v e.choice) wait ∙ (ap stop_fact o ∙ ap (λ v. if v then Stop (as_stopped t) else Nothing) b)
 
 -- A stop at a position
 
@@ -124,52 +124,52 @@ pub record StopThere (T : Table) (es : List Entry) (p : ℕ) (s : Stopped) : Typ
   pub stops : ConsumesStop (table_at T es place) entry thread
   pub stopped : s ≡ as_stopped thread
 
-pub stop_there : (k : State) → IsHistory k → (p : ℕ) (s : Stopped) → mark_at (notes_of (table_of k.start) k.journal) p ≡ Stop s → StopThere (table_of k.start) k.journal p s
+pub stop_there : (k : State) → IsHistory k → (p : ℕ) (s : Stopped) → fact_at (notes_of (table_of k.start) k.journal) p ≡ Stop s → StopThere (table_of k.start) k.journal p s
 stop_there k h p s q =
     let T = table_of k.start in
     let m = marked_there T k.journal p (Stop s) q (nothing_stop s) in
     let c = cut m.0 T k.table k.journal k.replies m.1 h.replayed m.3 in
-    let w = mark_stops (renamed_by T (take m.0 k.journal)) (table_at T k.journal m.0) m.1.actor m.1.event m.1.choice s (sym (mark_is T k.journal m.0 m.1 m.3) ∙ (ap (mark_at (notes_of T k.journal)) (sym m.2) ∙ q)) in
+    let w = mark_stops (renamed_by T (take m.0 k.journal)) (table_at T k.journal m.0) m.1.actor m.1.event m.1.choice s (sym (mark_is T k.journal m.0 m.1 m.3) ∙ (ap (fact_at (notes_of T k.journal)) (sym m.2) ∙ q)) in
     let t = consumes (table_at T k.journal m.0) m.1 s c.step.choice w in
     record { place = m.0; position = m.2; entry = m.1; thread = t.0; found = m.3; stops = t.1; stopped = t.2 }
 
 stops_at : (T : Table) (es : List Entry) (p : ℕ) (s : Stopped) → (x : StopThere T es p s) → StopsAt T es p x.entry x.thread
 stops_at T es p s x = subst (λ n. StopsAt T es n x.entry x.thread) (sym x.position) (x.found, x.stops)
 
-noted_stop : (T : Table) (es : List Entry) (p : ℕ) (e : Entry) (t : Thread) → StopsAt T es p e t → mark_at (notes_of T es) p ≡ Stop (as_stopped t)
+noted_stop : (T : Table) (es : List Entry) (p : ℕ) (e : Entry) (t : Thread) → StopsAt T es p e t → fact_at (notes_of T es) p ≡ Stop (as_stopped t)
 noted_stop T es zero e t x = absurd (none-some e x.0)
 noted_stop T es (suc n) e t x = mark_is T es n e x.0 ∙ stops_mark (renamed_by T (take n es)) (table_at T es n) e t x.1
 
-pub stops_by_notes : (k : State) → IsHistory k → (i j : ℕ) (s r : Stopped) → mark_at (notes_of (table_of k.start) k.journal) i ≡ Stop s → mark_at (notes_of (table_of k.start) k.journal) j ≡ Stop r → i < j → s.thread ≡ r.thread → TwoStops (table_of k.start) k.journal i j
+pub stops_by_notes : (k : State) → IsHistory k → (i j : ℕ) (s r : Stopped) → fact_at (notes_of (table_of k.start) k.journal) i ≡ Stop s → fact_at (notes_of (table_of k.start) k.journal) j ≡ Stop r → i < j → s.thread ≡ r.thread → TwoStops (table_of k.start) k.journal i j
 stops_by_notes k h i j s r m n l e =
     let T = table_of k.start in
     let a = stop_there k h i s m in
     let b = stop_there k h j r n in
     (l, (a.entry, b.entry, a.thread, b.thread, stops_at T k.journal i s a, stops_at T k.journal j r b, sym (ap (λ (z : Stopped). z.thread) b.stopped) ∙ (sym e ∙ ap (λ (z : Stopped). z.thread) a.stopped)))
 
-pub notes_of_stops : (T : Table) (es : List Entry) (i j : ℕ) → TwoStops T es i j → (i < j) × ((s r : Stopped) × (mark_at (notes_of T es) i ≡ Stop s) × (mark_at (notes_of T es) j ≡ Stop r) × (s.thread ≡ r.thread))
+pub notes_of_stops : (T : Table) (es : List Entry) (i j : ℕ) → TwoStops T es i j → (i < j) × ((s r : Stopped) × (fact_at (notes_of T es) i ≡ Stop s) × (fact_at (notes_of T es) j ≡ Stop r) × (s.thread ≡ r.thread))
 notes_of_stops T es i j (l, (e, f, t, u, a, b, same)) = (l, (as_stopped t, as_stopped u, noted_stop T es i e t a, noted_stop T es j f u b, sym same))
 
 -- Restarts
 
-exec_is : (id g : ℕ) (T : Table) (x : ℕ) → ((not (x == id) && is_exec_in g (exec_mark (thread_of T x))) ≡ true) ↔ ((x ≢ id) × ((t : Thread) × (thread_of T x ≡ Some t) × (t.group ≡ g)))
-exec_is id g T x = (λ q. let p = and_parts (not (x == id)) (is_exec_in g (exec_mark (thread_of T x))) q in (differs p.0, found (thread_of T x) p.1), λ h. both h.0 (thread_of T x) h.1)
+exec_is : (id g : ℕ) (T : Table) (x : ℕ) → ((not (x == id) && is_exec_in g (exec_fact (thread_of T x))) ≡ true) ↔ ((x ≢ id) × ((t : Thread) × (thread_of T x ≡ Some t) × (t.group ≡ g)))
+exec_is id g T x = (λ q. let p = and_parts (not (x == id)) (is_exec_in g (exec_fact (thread_of T x))) q in (differs p.0, found (thread_of T x) p.1), λ h. both h.0 (thread_of T x) h.1)
   where
     differs : not (x == id) ≡ true → x ≢ id
     differs q e = absurd (true≢false (sym q ∙ ap not (eq-eqb x id e)))
 
-    found : (o : Option Thread) → is_exec_in g (exec_mark o) ≡ true → (t : Thread) × (o ≡ Some t) × (t.group ≡ g)
+    found : (o : Option Thread) → is_exec_in g (exec_fact o) ≡ true → (t : Thread) × (o ≡ Some t) × (t.group ≡ g)
     found None q = absurd (true≢false (sym q))
     found (Some t) q = (t, refl, eqb-true t.group g q)
 
-    both : (x ≢ id) → (o : Option Thread) → (t : Thread) × (o ≡ Some t) × (t.group ≡ g) → (not (x == id) && is_exec_in g (exec_mark o)) ≡ true
+    both : (x ≢ id) → (o : Option Thread) → (t : Thread) × (o ≡ Some t) × (t.group ≡ g) → (not (x == id) && is_exec_in g (exec_fact o)) ≡ true
     both d None h = absurd (none-some h.0 h.1)
     both d (Some t) h = ap₂ (λ a b. not a && b) (ne_eqb x id d) (eq-eqb t.group g (ap (λ (z : Thread). z.group) (same_Some t h.0 h.1) ∙ h.2))
 
 same_number : (m n : ℕ) → ((m == n) ≡ true) ↔ (m ≡ n)
 same_number m n = (eqb-true m n, eq-eqb m n)
 
-restart_is : (s : Stopped) (a : ℕ) (ids : List ℕ) (T : Table) (b : ℕ) (e : Event) (c : Choice) → (is_restart s a b e (mark_of ids T b e c) ≡ true) ↔ IsRestart s.thread a s.group T b e
+restart_is : (s : Stopped) (a : ℕ) (ids : List ℕ) (T : Table) (b : ℕ) (e : Event) (c : Choice) → (is_restart s a b e (fact_of ids T b e c) ≡ true) ↔ IsRestart s.thread a s.group T b e
 restart_is s a ids T b (event.Cont x sig) c = same_number x s.thread
 restart_is s a ids T b (event.Listen x) c = same_number x s.thread
 restart_is s a ids T b (event.Detach x sig) c = same_number x s.thread
@@ -197,8 +197,8 @@ restarts_is s a T es k e q =
     let M = table_at T es k in
     let gs : dying_at (notes_of T es) (dying_by T es) k ≡ (work_of M e).dying
     = ap₂ (λ n d. take n (drop d (dying_by T es))) (deaths_after T es k e q) (deaths_is T es k (let l = slice_get_within es k e q in omega arith)) ∙ dying_there T es k e q in
-    let same : restarts_at s a es (notes_of T es) (dying_by T es) k ≡ (is_restart s a e.actor e.event (mark_of ids M e.actor e.event e.choice) || list_any (λ h. h == s.group) (work_of M e).dying)
-    = ap₂ (λ o n. restarts_here s a o n (dying_at (notes_of T es) (dying_by T es) k)) q (note_is T es k e q) ∙ ap (λ ys. is_restart s a e.actor e.event (mark_of ids M e.actor e.event e.choice) || list_any (λ h. h == s.group) ys) gs in
+    let same : restarts_at s a es (notes_of T es) (dying_by T es) k ≡ (is_restart s a e.actor e.event (fact_of ids M e.actor e.event e.choice) || list_any (λ h. h == s.group) (work_of M e).dying)
+    = ap₂ (λ o n. restarts_here s a o n (dying_at (notes_of T es) (dying_by T es) k)) q (note_is T es k e q) ∙ ap (λ ys. is_restart s a e.actor e.event (fact_of ids M e.actor e.event e.choice) || list_any (λ h. h == s.group) ys) gs in
     rw same (either_is _ _ (IsRestart s.thread a s.group M e.actor e.event) (IsIn s.group (work_of M e).dying) (restart_is s a ids M e.actor e.event e.choice) (any_in s.group (work_of M e).dying))
 
 -- The law
@@ -211,7 +211,7 @@ some_place id a g T (e ∷ es) (inr h) = let r = some_place id a g (work_of T e)
 taken_short : (es : List Entry) (n k : ℕ) (e : Entry) → slice_get (take n es) k ≡ Some e → k < n
 taken_short es n k e q = omega (arith, slice_get_within (take n es) k e q, length-take n es)
 
-pub restart_there : (k : State) → IsHistory k → (i j : ℕ) (s : Stopped) → mark_at (notes_of (table_of k.start) k.journal) i ≡ Stop s → TwoStops (table_of k.start) k.journal i j → (n : ℕ) × IsRestartAt (table_of k.start) k.journal i j s n
+pub restart_there : (k : State) → IsHistory k → (i j : ℕ) (s : Stopped) → fact_at (notes_of (table_of k.start) k.journal) i ≡ Stop s → TwoStops (table_of k.start) k.journal i j → (n : ℕ) × IsRestartAt (table_of k.start) k.journal i j s n
 restart_there k h zero j s m w = absurd (nothing_stop s m)
 restart_there k h (suc i) zero s m (l, (e, f, t, u, a, b, same)) = absurd (none-some f b.0)
 restart_there k h (suc i) (suc j) s m (l, (e, f, t, u, a, b, same)) =
@@ -243,7 +243,7 @@ restart_there k h (suc i) (suc j) s m (l, (e, f, t, u, a, b, same)) =
       },
     )
 
-pub restart_lies_between : (k : State) (i j : ℕ) (s : Stopped) (n : ℕ) → mark_at (notes_of (table_of k.start) k.journal) i ≡ Stop s → IsRestartAt (table_of k.start) k.journal i j s n → RestartBetween (table_of k.start) k.journal i j n
+pub restart_lies_between : (k : State) (i j : ℕ) (s : Stopped) (n : ℕ) → fact_at (notes_of (table_of k.start) k.journal) i ≡ Stop s → IsRestartAt (table_of k.start) k.journal i j s n → RestartBetween (table_of k.start) k.journal i j n
 restart_lies_between k i j s n m r = record {
   later = r.later;
   earlier = r.earlier;
@@ -278,24 +278,24 @@ restart_none T es i j s x one l n q f (suc p) r =
 
 -- In the words of the call
 
-pub no_stop_first : (T : Table) (es : List Entry) (i j : ℕ) (m : Mark) → m ≡ mark_at (notes_of T es) i → ((s : Stopped) → m ≡ Stop s → ⊥) → TwoStops T es i j → ⊥
+pub no_stop_first : (T : Table) (es : List Entry) (i j : ℕ) (m : EntryFact) → m ≡ fact_at (notes_of T es) i → ((s : Stopped) → m ≡ Stop s → ⊥) → TwoStops T es i j → ⊥
 no_stop_first T es i j m e n w = let h = notes_of_stops T es i j w in n h.1.0 (e ∙ h.1.2)
 
-pub no_stop_second : (T : Table) (es : List Entry) (i j : ℕ) (m : Mark) → m ≡ mark_at (notes_of T es) j → ((s : Stopped) → m ≡ Stop s → ⊥) → TwoStops T es i j → ⊥
+pub no_stop_second : (T : Table) (es : List Entry) (i j : ℕ) (m : EntryFact) → m ≡ fact_at (notes_of T es) j → ((s : Stopped) → m ≡ Stop s → ⊥) → TwoStops T es i j → ⊥
 no_stop_second T es i j m e n w = let h = notes_of_stops T es i j w in n h.1.1 (e ∙ h.1.3)
 
-pub two_stops_same : (T : Table) (es : List Entry) (i j : ℕ) (s r : Stopped) → mark_at (notes_of T es) i ≡ Stop s → mark_at (notes_of T es) j ≡ Stop r → TwoStops T es i j → (i < j) × (s.thread ≡ r.thread)
+pub two_stops_same : (T : Table) (es : List Entry) (i j : ℕ) (s r : Stopped) → fact_at (notes_of T es) i ≡ Stop s → fact_at (notes_of T es) j ≡ Stop r → TwoStops T es i j → (i < j) × (s.thread ≡ r.thread)
 two_stops_same T es i j s r m n w =
     let h = notes_of_stops T es i j w in
     (h.0, ap (λ (z : Stopped). z.thread) (same_stop s h.1.0 (sym m ∙ h.1.2)) ∙ (h.1.4 ∙ ap (λ (z : Stopped). z.thread) (same_stop h.1.1 r (sym h.1.3 ∙ n))))
 
-pub stop_bounds : (k : State) → IsHistory k → (i j : ℕ) (s r : Stopped) → mark_at (notes_of (table_of k.start) k.journal) i ≡ Stop s → mark_at (notes_of (table_of k.start) k.journal) j ≡ Stop r → (1 ≤ i) × (j ≤ length k.journal)
+pub stop_bounds : (k : State) → IsHistory k → (i j : ℕ) (s r : Stopped) → fact_at (notes_of (table_of k.start) k.journal) i ≡ Stop s → fact_at (notes_of (table_of k.start) k.journal) j ≡ Stop r → (1 ≤ i) × (j ≤ length k.journal)
 stop_bounds k h i j s r m n =
     let a = stop_there k h i s m in
     let b = stop_there k h j r n in
     (omega (arith, a.position), omega (arith, b.position, slice_get_within k.journal b.place b.entry b.found))
 
-pub some_restart : (k : State) → IsHistory k → (i j : ℕ) (s r : Stopped) (o : Option ℕ) → mark_at (notes_of (table_of k.start) k.journal) i ≡ Stop s → mark_at (notes_of (table_of k.start) k.journal) j ≡ Stop r → i < j → s.thread ≡ r.thread
+pub some_restart : (k : State) → IsHistory k → (i j : ℕ) (s r : Stopped) (o : Option ℕ) → fact_at (notes_of (table_of k.start) k.journal) i ≡ Stop s → fact_at (notes_of (table_of k.start) k.journal) j ≡ Stop r → i < j → s.thread ≡ r.thread
     → (o ≡ None → (n : ℕ) → IsRestartAt (table_of k.start) k.journal i j s n → ⊥) → IsSome o ↔ TwoStops (table_of k.start) k.journal i j
 some_restart k h i j s r (Some x) m n l e none = ((λ q. stops_by_notes k h i j s r m n l e), λ w. refl)
 some_restart k h i j s r None m n l e none =
@@ -303,6 +303,6 @@ some_restart k h i j s r None m n l e none =
     let x = restart_there k h i j s m w in
     absurd (none refl x.0 x.1)
 
-pub restart_between_them : (k : State) (i j : ℕ) (s : Stopped) (o : Option ℕ) → mark_at (notes_of (table_of k.start) k.journal) i ≡ Stop s → IfSome o (λ n. IsRestartAt (table_of k.start) k.journal i j s n) → IfSome o (λ n. RestartBetween (table_of k.start) k.journal i j n)
+pub restart_between_them : (k : State) (i j : ℕ) (s : Stopped) (o : Option ℕ) → fact_at (notes_of (table_of k.start) k.journal) i ≡ Stop s → IfSome o (λ n. IsRestartAt (table_of k.start) k.journal i j s n) → IfSome o (λ n. RestartBetween (table_of k.start) k.journal i j n)
 restart_between_them k i j s None m h = tt
 restart_between_them k i j s (Some n) m h = restart_lies_between k i j s n m h

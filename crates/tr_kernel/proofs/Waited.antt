@@ -3,14 +3,14 @@ use Rattle.std.proofs.Common.{◌≡◌, ◌≢◌, ℕ, zero, suc, ◌+◌, ◌
 use Rattle.std.proofs.lemmas.Bool.{eq-eqb}
 use Rattle.std.proofs.lemmas.Option.{none-some}
 use Rattle.std.specs.Prelude.{IfSome, IsSome, slice_get}
-use Rattle.tr_model.specs.declared.events.Choice.{Choice}
+use Rattle.tr_model.specs.Choices.{Choice}
 use Rattle.tr_model.specs.declared.events.Entry.{Entry}
 use Rattle.tr_model.specs.declared.events.Event.{Event}
 use Rattle.tr_model.specs.declared.events.Event.TheVariants as event
 use Rattle.tr_model.specs.Journals.{IsIn, consumed, consumed_by, consumed_of, occurs}
 use Rattle.tr_model.specs.Steps.{Admits}
 use Rattle.tr_model.specs.Tables.{Table}
-use Rattle.tr_model.proofs.OneFate.{occurs-append}
+use Rattle.tr_model.proofs.Among.{occurs-append}
 use Rattle.tr_model.proofs.Consumed.{consumed_once, consumed_was_raised}
 use Rattle.tr_table.specs.Starts.{table_of}
 use Rattle.tr_kernel.specs.Laws.{IsWait, RaisedBefore, WaitsAt, consumed_at, report_by, report_of}

@@ -1,5 +1,7 @@
 pub mod Answers
 pub mod Fates
+pub mod Heard
+pub mod Kept
 pub mod Laws
 pub mod Notes
 pub mod Positions

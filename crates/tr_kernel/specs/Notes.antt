@@ -5,7 +5,7 @@ use Rattle.tr_wait.specs.declared.status.Status.{Status}
 use Rattle.tr_wait.specs.declared.status.Status.TheVariants as status
 use Rattle.tr_tracee.specs.declared.thread.Report.{Report}
 use Rattle.tr_tracee.specs.declared.thread.Thread.{Thread}
-use Rattle.tr_model.specs.declared.events.Choice.{Choice}
+use Rattle.tr_model.specs.Choices.{Choice}
 use Rattle.tr_model.specs.declared.events.Entry.{Entry}
 use Rattle.tr_model.specs.declared.events.Event.{Event}
 use Rattle.tr_model.specs.declared.events.Event.TheVariants as event
@@ -15,10 +15,10 @@ use Rattle.tr_model.specs.Journals.{Taken, occurs, renamed_by, taken_of}
 use Rattle.tr_model.specs.Steps.{number, work_of}
 use Rattle.tr_model.specs.Tables.{Table, thread_of}
 use Rattle.tr_model.specs.Waits.{ready_thread}
-use Rattle.tr_kernel.specs.declared.notes.Mark.{Mark}
-use Rattle.tr_kernel.specs.declared.notes.Mark.TheVariants.{Nothing, Stop, Take, Exec}
+use Rattle.tr_kernel.specs.declared.notes.EntryFact.{EntryFact}
+use Rattle.tr_kernel.specs.declared.notes.EntryFact.TheVariants.{Nothing, Stop, Take, Exec}
 use Rattle.tr_kernel.specs.declared.notes.Note.{Note}
-use Rattle.tr_kernel.specs.declared.notes.Passed.{Passed}
+use Rattle.tr_kernel.specs.declared.notes.IdTransfer.{IdTransfer}
 
 -- Waits
 
@@ -34,39 +34,39 @@ abbrev pub shows_stop : Option Report → Bool
 shows_stop None = false
 shows_stop (Some r) = is_stop_status r.status
 
--- the mark of a tracer's wait for this thread
-abbrev pub stop_mark : Option Thread → Mark
-stop_mark None = Nothing
-stop_mark (Some t) = if shows_stop t.report then Stop (record { thread = t.id; group = t.group }) else Nothing
+-- the fact of a tracer's wait for this thread
+abbrev pub stop_fact : Option Thread → EntryFact
+stop_fact None = Nothing
+stop_fact (Some t) = if shows_stop t.report then Stop (record { thread = t.id; group = t.group }) else Nothing
 
 -- Execve
 
--- the mark of an execve(2) by this thread
-abbrev pub exec_mark : Option Thread → Mark
-exec_mark None = Nothing
-exec_mark (Some t) = Exec t.group
+-- the fact of an execve(2) by this thread
+abbrev pub exec_fact : Option Thread → EntryFact
+exec_fact None = Nothing
+exec_fact (Some t) = Exec t.group
 
 -- Takes
 
 -- how often the id of the queue's thread has passed on
-abbrev pub passes : List ℕ → Target → ℕ
-passes ids (target.Thread id) = occurs id ids
-passes ids (target.Group g) = 0
+abbrev pub transfers_of : List ℕ → Target → ℕ
+transfers_of ids (target.Thread id) = occurs id ids
+transfers_of ids (target.Group g) = 0
 
--- the mark of a take of this, after these ids have passed on
-abbrev pub take_mark : List ℕ → Option Taken → Mark
-take_mark ids None = Nothing
-take_mark ids (Some k) = Take (record { number = k.number; signal = k.signal; queue = k.queue; passed = passes ids k.queue })
+-- the fact of a take of this, after these ids have passed on
+abbrev pub take_fact : List ℕ → Option Taken → EntryFact
+take_fact ids None = Nothing
+take_fact ids (Some k) = Take (record { number = k.number; signal = k.signal; queue = k.queue; transfers = transfers_of ids k.queue })
 
--- Marks and notes
+-- Facts and notes
 
 -- what an entry is to the laws, after these ids have passed on
-abbrev pub mark_of : List ℕ → Table → ℕ → Event → Choice → Mark
-mark_of ids T a (event.Wait which) c = stop_mark (ready_thread T a which (number c.report))
-mark_of ids T a (event.Take id) c = take_mark ids (taken_of T (event.Take id) c)
-mark_of ids T a (event.TakeAny g) c = take_mark ids (taken_of T (event.TakeAny g) c)
-mark_of ids T a (event.Exec id) c = exec_mark (thread_of T id)
-mark_of ids T a _ c = Nothing
+abbrev pub fact_of : List ℕ → Table → ℕ → Event → Choice → EntryFact
+fact_of ids T a (event.Wait which) c = stop_fact (ready_thread T a which (number c.report))
+fact_of ids T a (event.Take id) c = take_fact ids (taken_of T (event.Take id) c)
+fact_of ids T a (event.TakeAny g) c = take_fact ids (taken_of T (event.TakeAny g) c)
+fact_of ids T a (event.Exec id) c = exec_fact (thread_of T id)
+fact_of ids T a _ c = Nothing
 
 -- there is a group among these
 abbrev pub is_some_group : List ℕ → Bool
@@ -77,7 +77,7 @@ is_some_group (g ∷ gs) = true
 abbrev pub note_of : List ℕ → ℕ → Table → Entry → Note
 note_of ids deaths T e =
     let w = work_of T e in
-    record { mark = mark_of ids T e.actor e.event e.choice; killed = is_some_group w.killed; deaths = deaths + length w.dying }
+    record { fact = fact_of ids T e.actor e.event e.choice; killed = is_some_group w.killed; deaths = deaths + length w.dying }
 
 -- the notes of these entries, after these ids have passed on and so many deaths
 abbrev pub notes_from : List ℕ → ℕ → Table → List Entry → List Note
@@ -96,12 +96,12 @@ dying_by T [] = []
 dying_by T (e ∷ es) = let w = work_of T e in w.dying ++ dying_by w.table es
 
 -- how often an id has passed on, by a list of such ids with their counts
-abbrev pub times : ℕ → List Passed → ℕ
+abbrev pub times : ℕ → List IdTransfer → ℕ
 times id [] = 0
 times id (p ∷ ps) = if p.id == id then p.times else times id ps
 
 -- The notes of a journal: one of each entry, all groups whose death began, and how often each id has passed on.
-pub record IsNoted (T : Table) (es : List Entry) (ns : List Note) (gs : List ℕ) (ps : List Passed) : Type 0 where
+pub record IsNoted (T : Table) (es : List Entry) (ns : List Note) (gs : List ℕ) (ps : List IdTransfer) : Type 0 where
   pub notes : ns ≡ notes_of T es
   pub dying : gs ≡ dying_by T es
-  pub passed : (id : ℕ) → times id ps ≡ occurs id (renamed_by T es)
+  pub transfers : (id : ℕ) → times id ps ≡ occurs id (renamed_by T es)

@@ -1,7 +1,7 @@
 -- What private functions answer, by the fates and notes that they keep: no public contract cites these.
-use Rattle.std.specs.Prelude.{◌≡◌, ℕ, ◌+◌, ◌-◌, ◌<◌, ◌≤◌, ◌==◌, ◌&&◌, ◌||◌, zero, suc, List, [], ◌∷◌, ◌++◌, Bool, false, not, Option, Some, None, length, slice_get, take, drop, filter, replicate, if◌then◌else◌}
+use Rattle.std.specs.Prelude.{◌≡◌, ℕ, ◌+◌, ◌-◌, ◌<◌, ◌≤◌, ◌==◌, ◌&&◌, ◌||◌, zero, suc, List, [], ◌∷◌, ◌++◌, Bool, true, false, is_some, not, Option, Some, None, Ok, length, slice_get, take, drop, filter, replicate, if◌then◌else◌}
 use Rattle.std.specs.List.{list_any}
-use Rattle.tr_model.specs.declared.events.Choice.{Choice}
+use Rattle.tr_model.specs.Choices.{Choice}
 use Rattle.tr_model.specs.declared.events.Entry.{Entry}
 use Rattle.tr_model.specs.declared.events.Event.{Event}
 use Rattle.tr_model.specs.declared.events.Event.TheVariants as event
@@ -14,25 +14,52 @@ use Rattle.tr_model.specs.declared.replies.Reply.TheVariants as reply
 use Rattle.tr_model.specs.declared.rows.Target.{Target}
 use Rattle.tr_model.specs.declared.rows.Target.TheVariants as target
 use Rattle.tr_model.specs.Journals.{occurs, queue_of, same_fate, taken}
-use Rattle.tr_model.specs.Moves.{Work}
-use Rattle.tr_model.specs.Steps.{after, number, work_of}
+use Rattle.tr_model.specs.declared.checked.Checked.TheVariants.{Due}
+use Rattle.tr_model.specs.Moves.{Work, instance_in}
+use Rattle.tr_model.specs.Preferred.{check}
+use Rattle.tr_model.specs.Causes.{is_in}
+use Rattle.tr_model.specs.StarterWaits.{ready_death, ready_note}
+use Rattle.tr_model.specs.Steps.{after, is_new, number, takes, took_reply, waited_thread, work_of}
 use Rattle.tr_model.specs.Tables.{Table, thread_of}
 use Rattle.tr_model.specs.Waits.{ready_thread}
-use Rattle.tr_kernel.specs.declared.notes.Mark.{Mark}
-use Rattle.tr_kernel.specs.declared.notes.Mark.TheVariants.{Nothing, Take, Exec}
+use Rattle.tr_kernel.specs.declared.notes.EntryFact.{EntryFact}
+use Rattle.tr_kernel.specs.declared.notes.EntryFact.TheVariants.{Nothing, Take, Exec}
 use Rattle.tr_kernel.specs.declared.notes.Note.{Note}
-use Rattle.tr_kernel.specs.declared.notes.Passed.{Passed}
+use Rattle.tr_kernel.specs.declared.notes.IdTransfer.{IdTransfer}
 use Rattle.tr_kernel.specs.declared.notes.Stopped.{Stopped}
 use Rattle.tr_kernel.specs.declared.notes.TakenFrom.{TakenFrom}
 use Rattle.tr_kernel.specs.Laws.{RestartsAt}
-use Rattle.tr_kernel.specs.Notes.{exec_mark, is_some_group, stop_mark, times}
+use Rattle.tr_kernel.specs.Notes.{exec_fact, is_some_group, stop_fact, times}
 use Rattle.tr_kernel.specs.Positions.{entry_at}
+
+-- Entries
+
+-- what an actor asked for, with this choice
+abbrev pub entry_with : ℕ → Event → Choice → Entry
+entry_with a e c = record { actor = a; event = e; choice = c }
+
+-- an event that leaves nothing open is due as a check says
+abbrev pub IsFixed : Table → ℕ → Event → Choice → Type 0
+IsFixed T a (event.Take id) c = Unit {0}
+IsFixed T a (event.TakeAny g) c = Unit {0}
+IsFixed T a (event.Wait which) c = Unit {0}
+IsFixed T a (event.StarterWait which flags) c = Unit {0}
+IsFixed T a (event.CloneThread id) c = Unit {0}
+IsFixed T a e c = check T a e ≡ Ok (Due c)
 
 -- Fates
 
 -- how many of the fates are this one
 abbrev pub count_of : Fate → List Fate → ℕ
 count_of f fs = length (filter (same_fate f) fs)
+
+-- how many of the totals have this fate
+abbrev pub of_fate : Fate → Totals → ℕ
+of_fate Pending t = t.pending
+of_fate Merged t = t.merged
+of_fate Delivered t = t.delivered
+of_fate Suppressed t = t.suppressed
+of_fate Flushed t = t.flushed
 
 -- how many numbers have each fate
 abbrev pub tally : List Fate → ℕ → Totals
@@ -44,6 +71,11 @@ tally fs accepted = record {
   suppressed = count_of Suppressed fs;
   flushed = count_of Flushed fs;
 }
+
+-- a number that was pending is counted under its fate
+pub record MovesOne (fate : Fate) (old new : Totals) : Type 0 where
+  pub accepted : new.accepted ≡ old.accepted
+  pub counts : (f : Fate) → of_fate f new + (if same_fate f Pending then 1 else 0) ≡ of_fate f old + (if same_fate f fate then 1 else 0)
 
 -- what has ended stays so
 abbrev pub first_of : Fate → Fate → Fate
@@ -66,54 +98,53 @@ fates_after fs w = endings_noted w.ended (fs ++ replicate (w.table.accepted - le
 -- Ids that pass on
 
 -- each id has passed on as often as before, and these once more
-pub record PassOn (ids : List ℕ) (old new : List Passed) : Type 0 where
+pub record AreTransferred (ids : List ℕ) (old new : List IdTransfer) : Type 0 where
   pub counts : (n : ℕ) → times n new ≡ times n old + occurs n ids
 
 -- how often the id of the queue's thread has passed on
-abbrev pub passes_in : List Passed → Target → ℕ
-passes_in ps (target.Thread id) = times id ps
-passes_in ps (target.Group g) = 0
+abbrev pub transfers_in : List IdTransfer → Target → ℕ
+transfers_in ps (target.Thread id) = times id ps
+transfers_in ps (target.Group g) = 0
 
 -- The note of an entry
 
--- its mark, as far as the table before it shows
-abbrev pub mark_before : Table → ℕ → Event → Choice → Mark
-mark_before T a (event.Wait which) c = stop_mark (ready_thread T a which (number c.report))
-mark_before T a (event.Exec id) c = exec_mark (thread_of T id)
-mark_before T a _ c = Nothing
+-- its fact, as far as the table before it shows
+abbrev pub fact_before : Table → ℕ → Event → Choice → EntryFact
+fact_before T a (event.Wait which) c = stop_fact (ready_thread T a which (number c.report))
+fact_before T a (event.Exec id) c = exec_fact (thread_of T id)
+fact_before T a _ c = Nothing
 
--- its mark after the step, by the queue that it took from and its reply
-abbrev pub mark_after : Mark → Option Target → List Passed → Reply → Mark
-mark_after m None ps r = m
-mark_after m (Some q) ps (reply.Took id i did) = Take (record { number = i.n; signal = i.sig; queue = q; passed = passes_in ps q })
-mark_after m (Some q) ps _ = m
+-- its fact after the step, by the queue that it took from and its reply
+abbrev pub fact_after : EntryFact → Option Target → List IdTransfer → Reply → EntryFact
+fact_after m None ps r = m
+fact_after m (Some q) ps (reply.Took id i did) = Take (record { number = i.n; signal = i.sig; queue = q; transfers = transfers_in ps q })
+fact_after m (Some q) ps _ = m
+
+-- the note of an entry that did this work, after so many deaths of groups
+abbrev pub note_with : EntryFact → ℕ → Work → Note
+note_with f deaths w = record { fact = f; killed = is_some_group w.killed; deaths = deaths + length w.dying }
 
 -- the note, after so many deaths of groups
-abbrev pub noted : List Passed → ℕ → Table → Entry → Note
+abbrev pub noted : List IdTransfer → ℕ → Table → Entry → Note
 noted ps deaths T e =
-    let w = work_of T e in
-    record {
-      mark = mark_after (mark_before T e.actor e.event e.choice) (queue_of (taken T e)) ps (after T e).reply;
-      killed = is_some_group w.killed;
-      deaths = deaths + length w.dying;
-    }
+    note_with (fact_after (fact_before T e.actor e.event e.choice) (queue_of (taken T e)) ps (after T e).reply) deaths (work_of T e)
 
 -- What the notes say at a position
 
--- the mark in a note, if there is one
-abbrev pub mark_in : Option Note → Mark
-mark_in None = Nothing
-mark_in (Some n) = n.mark
+-- the fact in a note, if there is one
+abbrev pub fact_in : Option Note → EntryFact
+fact_in None = Nothing
+fact_in (Some n) = n.fact
 
 -- whether the note is of an entry that delivered a KILL
 abbrev pub killed_in : Option Note → Bool
 killed_in None = false
 killed_in (Some n) = n.killed
 
--- the mark at a position, from 1
-abbrev pub mark_at : List Note → ℕ → Mark
-mark_at ns zero = Nothing
-mark_at ns (suc p) = mark_in (slice_get ns p)
+-- the fact at a position, from 1
+abbrev pub fact_at : List Note → ℕ → EntryFact
+fact_at ns zero = Nothing
+fact_at ns (suc p) = fact_in (slice_get ns p)
 
 -- Deaths of groups
 
@@ -138,12 +169,12 @@ dying_at ns dying p = take (deaths_to ns (suc p) - deaths_to ns p) (drop (deaths
 -- Restarts
 
 -- it is an exec of a thread of the group
-abbrev pub is_exec_in : ℕ → Mark → Bool
+abbrev pub is_exec_in : ℕ → EntryFact → Bool
 is_exec_in g (Exec h) = h == g
 is_exec_in g _ = false
 
 -- a restart of the thread, the end of tracer a, or an exec of another thread of its group
-abbrev pub is_restart : Stopped → ℕ → ℕ → Event → Mark → Bool
+abbrev pub is_restart : Stopped → ℕ → ℕ → Event → EntryFact → Bool
 is_restart s a b (event.Cont x sig) m = x == s.thread
 is_restart s a b (event.Listen x) m = x == s.thread
 is_restart s a b (event.Detach x sig) m = x == s.thread
@@ -153,7 +184,7 @@ is_restart s a b _ m = false
 
 -- an entry with its note restarts the thread, or the thread's group is among these, whose death it began
 abbrev pub restarts_here : Stopped → ℕ → Option Entry → Option Note → List ℕ → Bool
-restarts_here s a (Some e) (Some n) gs = is_restart s a e.actor e.event n.mark || list_any (λ g. g == s.group) gs
+restarts_here s a (Some e) (Some n) gs = is_restart s a e.actor e.event n.fact || list_any (λ g. g == s.group) gs
 restarts_here s a _ _ gs = false
 
 -- the entry at a place restarts the thread or begins the death of its group
@@ -172,4 +203,29 @@ pub record IsRestartAt (T : Table) (es : List Entry) (i j : ℕ) (s : Stopped) (
 pub record SameQueue (k l : TakenFrom) : Type 0 where
   pub signal : k.signal ≡ l.signal
   pub queue : k.queue ≡ l.queue
-  pub passed : k.passed ≡ l.passed
+  pub transfers : k.transfers ≡ l.transfers
+
+-- Replies of another system
+
+-- whether the model admits the choice that a reply tells
+abbrev pub admits_told : Table → ℕ → Event → Reply → Bool
+admits_told T a (event.Take id) (reply.Took t i did) = takes T (thread_of T id) i.n
+admits_told T a (event.Take id) _ = false
+admits_told T a (event.TakeAny g) (reply.Took t i did) = is_in g (thread_of T t) && takes T (thread_of T t) i.n
+admits_told T a (event.TakeAny g) _ = false
+admits_told T a (event.Wait which) (reply.Waited id word r) = is_some (ready_thread T a which r)
+admits_told T a (event.Wait which) _ = false
+admits_told T a (event.StarterWait which flags) (reply.Waited id word r) = is_some (ready_death T which r) || is_some (ready_note T which flags r)
+admits_told T a (event.StarterWait which flags) _ = false
+admits_told T a (event.CloneThread id) (reply.Cloned new) = is_new T new
+admits_told T a (event.CloneThread id) _ = false
+admits_told T a _ _ = true
+
+-- the reply of an event that sends nothing, by its choice; of a send and of an attach nothing is said
+abbrev pub reply_without_send : Table → ℕ → Event → Choice → Reply
+reply_without_send T a (event.Take id) c = took_reply T (thread_of T id) (instance_in T.waiting (number c.instance))
+reply_without_send T a (event.TakeAny g) c = took_reply T (thread_of T (number c.thread)) (instance_in T.waiting (number c.instance))
+reply_without_send T a (event.CloneThread id) c = reply.Cloned (number c.new_id)
+reply_without_send T a (event.Wait which) c = waited_thread (ready_thread T a which (number c.report)) None
+reply_without_send T a (event.StarterWait which flags) c = waited_thread (ready_death T which (number c.report)) (ready_note T which flags (number c.report))
+reply_without_send T a _ c = reply.Done

@@ -53,6 +53,19 @@ pub record IsEntered (old : State) (actor : ℕ) (event : Event) (reply : Reply)
   pub journal : new.journal ≡ old.journal ++ entry_of old actor event ∷ []
   pub replies : new.replies ≡ old.replies ++ reply ∷ []
 
+-- the entry is made, which is a step
+pub record IsMade (old : State) (entry : Entry) (reply : Reply) (new : State) : Type 0 where
+  pub step : Step old.table entry reply new.table
+  pub start : new.start ≡ old.start
+  pub journal : new.journal ≡ old.journal ++ entry ∷ []
+  pub replies : new.replies ≡ old.replies ++ reply ∷ []
+
+-- an entry that is due isn't made: the journal is full, or memory was refused where it isn't
+abbrev pub IsWithheld : State → Refusal → Type 0
+IsWithheld old JournalFull = old.table.entries ≤ length old.journal
+IsWithheld old NoMemory = length old.journal < old.table.entries
+IsWithheld old why = ⊥
+
 -- the event is to make an entry
 pub record IsDue (old : State) (actor : ℕ) (event : Event) : Type 0 where
   pub no_cause : cause_of old.table actor event ≡ None

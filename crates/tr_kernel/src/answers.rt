@@ -1,7 +1,7 @@
 ghost use Rattle.std.specs.Prelude.{◌≡◌};
 ghost use Rattle.tr_kernel.specs.Answers.{is_entered};
 
-use tr_model::{Event, Refusal, Reply};
+use tr_model::{Event, Refusal, Reply, Same};
 
 /// What the caller is told of its entry.
 #[derive(Clone, Copy, Debug, PartialEq, Eq)]
@@ -30,5 +30,24 @@ impl Answer {
         ensures { result ≡ is_entered self.now }
     {
         matches!(self, Answer::Entered(_))
+    }
+}
+
+impl Same for Receipt {
+    fn same(&self, other: &Receipt) -> bool {
+        self.position == other.position
+            && self.event.same(&other.event)
+            && self.reply.same(&other.reply)
+            && self.accepted == other.accepted
+    }
+}
+
+impl Same for Answer {
+    fn same(&self, other: &Answer) -> bool {
+        match self {
+            Answer::Entered(receipt) => matches!(other, Answer::Entered(r) if receipt.same(r)),
+            Answer::Read(reply) => matches!(other, Answer::Read(r) if reply.same(r)),
+            Answer::Refused(why) => matches!(other, Answer::Refused(w) if why == w),
+        }
     }
 }

@@ -1,7 +1,8 @@
-ghost use Rattle.std.specs.Prelude.{◌≡◌, IfOk, OnErr, Ok};
-ghost use Rattle.tr_model.specs.declared.checked.Checked.TheVariants.{Due};
+ghost use Rattle.std.specs.Prelude.{◌≡◌, IfOk, OnErr};
+ghost use Rattle.tr_model.specs.Compare.{Permits};
 ghost use Rattle.tr_model.specs.Preferred.{check};
 ghost use Rattle.tr_steps.specs.UnderWay.{IsStepOf};
+ghost use Rattle.tr_kernel.specs.Private.{IsFixed};
 
 use std::alloc::{AllocError, Global};
 use tr_model::{Checked, Choice, Event, Refusal, Reply};
@@ -58,16 +59,17 @@ pub(crate) fn check(table: &Table, actor: u32, event: &Event) -> Result<Checked,
     }
 }
 
-/// Makes an event that is due. Where memory is refused nothing has changed.
+/// Makes an event that is due, with any choice that the model admits. Where memory is refused nothing has changed.
 pub(crate) fn change(
     step: &mut Step,
     alloc: Global,
     actor: u32,
     event: &Event,
-    choice: &Choice,
+    choice: Choice,
 ) -> Result<Reply, AllocError>
-    requires { check step.old.work.table actor event.now ≡ Ok (Due choice.now) }
-    ensures did { IfOk result (IsStepOf step.old.work.table (record { actor = actor; event = event.now; choice = choice.now }) step.new) }
+    requires due { Permits step.old.work.table actor event.now choice }
+    requires fixed { IsFixed step.old.work.table actor event.now choice }
+    ensures did { IfOk result (IsStepOf step.old.work.table (record { actor = actor; event = event.now; choice = choice }) step.new) }
     ensures err { OnErr result (step.new.work.table ≡ step.old.work.table) }
 {
     match event {
@@ -77,18 +79,18 @@ pub(crate) fn change(
         Event::Mask { tid, set } => mask(step, actor, *tid, *set),
         Event::SetAction { tid, sig, how } => set_action(step, actor, *tid, *sig, *how),
         Event::Pause { tid } => pause(step, actor, *tid),
-        Event::Take { tid } => take(step, actor, *tid, choice.instance.unwrap()),
+        Event::Take { tid } => take(step, actor, *tid, choice.instance().unwrap()),
         Event::TakeAny { tgid } => take_any(
             step,
             actor,
             *tgid,
-            choice.thread.unwrap(),
-            choice.instance.unwrap(),
+            choice.thread().unwrap(),
+            choice.instance().unwrap(),
         ),
         Event::Halt { tid } => halt(step, actor, *tid),
         Event::Trap { tid } => trap(step, actor, *tid),
         Event::Die { tid } => die(step, actor, *tid),
-        Event::CloneThread { tid } => clone_thread(step, actor, *tid, choice.new_id.unwrap()),
+        Event::CloneThread { tid } => clone_thread(step, actor, *tid, choice.new_id().unwrap()),
         Event::Exec { tid } => exec(step, actor, *tid),
         Event::Finish { tid } => finish(step, actor, *tid),
         Event::Exit { tid, code } => exit(step, actor, *tid, *code),
@@ -101,13 +103,13 @@ pub(crate) fn change(
         Event::Detach { tid, sig } => detach(step, actor, *tid, *sig),
         Event::SetOptions { tid, options } => set_options(step, actor, *tid, *options),
         Event::TracerExit => tracer_exit(step, alloc, actor),
-        Event::Wait { which } => wait(step, actor, *which, choice.report.unwrap()),
+        Event::Wait { which } => wait(step, actor, *which, choice.report().unwrap()),
         Event::StarterWait { which, flags } => starter_wait(
             step,
             actor,
             *which,
             *flags,
-            choice.report.unwrap(),
+            choice.report().unwrap(),
         ),
         Event::EventMessage { .. } | Event::SignalInfo { .. } => unreachable!(),
     }

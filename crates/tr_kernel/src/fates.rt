@@ -1,38 +1,30 @@
-ghost use Rattle.std.specs.Prelude.{◌≡◌, ◌++◌, ◌+◌, ◌≤◌, ◌<◌, ◌-◌, ◌∷◌, [], None, replicate, slice_get, vec_len, vec_capacity};
+ghost use Rattle.std.specs.Prelude.{◌≡◌, ◌++◌, ◌+◌, ◌≤◌, ◌<◌, ◌-◌, ◌∷◌, [], None, OnErr, OnOk, length, replicate, slice_get, vec_len, vec_capacity};
 ghost use Rattle.tr_model.specs.declared.fates.Fate.TheVariants.{Pending};
 ghost use Rattle.tr_model.specs.Journals.{same_fate};
-ghost use Rattle.tr_kernel.specs.Private.{count_of, ending_noted, endings_noted, tally};
+ghost use Rattle.tr_kernel.specs.Private.{MovesOne, ending_noted, endings_noted, tally};
 
+use crate::lists::at_position;
+use std::alloc::{AllocError, Global};
+use std::marker::Model;
 use tr_model::{Ending, Fate, Totals};
 
-// The fates of accepted numbers: number n at place n - 1.
-
-/// Appends this many accepted numbers, whose fate is open.
-pub(crate) fn accept(fates: &mut Vec<Fate>, more: usize)
-    requires { vec_len fates.old + more ≤ vec_capacity fates.old }
-    ensures { fates.new.items ≡ fates.old.items ++ replicate more Pending }
-{
-    for _ in 0..more {
-        fates.push_reserved(Fate::Pending);
-    }
+/// The fate of each accepted number, that of number n at place n - 1, and how many have each fate.
+#[derive(Drop)]
+pub(crate) struct Fates {
+    list: Vec<Fate>,
+    totals: Totals,
 }
 
-/// Writes down what ended.
-pub(crate) fn note_all(fates: &mut [Fate], ended: &[Ending])
-    ensures { fates.new ≡ endings_noted ended.now fates.old }
-{
-    for ending in ended {
-        note(fates, ending);
-    }
-}
+impl Model for Fates {
+    ghost use Rattle.std.specs.Prelude.{◌≡◌, ◌-◌, length, vec_capacity, vec_len};
+    ghost use Rattle.tr_kernel.specs.Kept.{FateList};
+    ghost use Rattle.tr_kernel.specs.Private.{tally};
 
-fn note(fates: &mut [Fate], ending: &Ending)
-    ensures { fates.new ≡ ending_noted 1 ending.now fates.old }
-{
-    let place = ending.number as usize;
-    if 1 <= place && place <= fates.len() && same_fate(Fate::Pending, fates[place - 1]) {
-        fates[place - 1] = ending.fate;
-    }
+    ghost Value = { FateList };
+
+    ghost view = { λ f. record { fates = f.list.items; room = vec_capacity f.list - vec_len f.list } };
+
+    ghost invariant = { λ f. f.totals ≡ tally f.list.items (length f.list.items) };
 }
 
 fn same_fate(a: Fate, b: Fate) -> bool
@@ -41,39 +33,128 @@ fn same_fate(a: Fate, b: Fate) -> bool
     a as u8 == b as u8
 }
 
-fn count_of(fates: &[Fate], fate: Fate) -> u64
-    ensures { result ≡ count_of fate fates.now }
+/// Counts a number that was pending under its fate.
+fn moved(totals: &Totals, fate: Fate) -> Totals
+    requires pending { 0 < totals.now.pending }
+    requires merged { totals.now.merged + 1 < 18446744073709551616 }
+    requires delivered { totals.now.delivered + 1 < 18446744073709551616 }
+    requires suppressed { totals.now.suppressed + 1 < 18446744073709551616 }
+    requires flushed { totals.now.flushed + 1 < 18446744073709551616 }
+    ensures { MovesOne fate totals.now result }
 {
-    fates.iter().filter(|f| same_fate(fate, **f)).count() as u64
-}
-
-/// How many numbers have each fate.
-pub(crate) fn tally(fates: &[Fate], accepted: u64) -> Totals
-    ensures { result ≡ tally fates.now accepted }
-{
-    Totals {
-        accepted,
-        pending: count_of(fates, Fate::Pending),
-        merged: count_of(fates, Fate::Merged),
-        delivered: count_of(fates, Fate::Delivered),
-        suppressed: count_of(fates, Fate::Suppressed),
-        flushed: count_of(fates, Fate::Flushed),
+    let pending = totals.pending - 1;
+    match fate {
+        Fate::Pending => *totals,
+        Fate::Merged => Totals {
+            pending,
+            merged: totals.merged + 1,
+            ..*totals
+        },
+        Fate::Delivered => Totals {
+            pending,
+            delivered: totals.delivered + 1,
+            ..*totals
+        },
+        Fate::Suppressed => Totals {
+            pending,
+            suppressed: totals.suppressed + 1,
+            ..*totals
+        },
+        Fate::Flushed => Totals {
+            pending,
+            flushed: totals.flushed + 1,
+            ..*totals
+        },
     }
 }
 
-/// What stands at a position, from 1.
-pub(crate) fn at_position<T: Copy>(items: &[T], position: u64) -> Option<T>
-    ensures none { position ≡ 0 → result ≡ None }
-    ensures at { 1 ≤ position → result ≡ slice_get items.now (position - 1) }
-{
-    let place = position.checked_sub(1)?;
-    items.get(place as usize).copied()
+impl Fates {
+    pub(crate) fn new(alloc: Global) -> Fates
+        ensures { result.fates ≡ [] }
+    {
+        Fates {
+            list: Vec::new(alloc),
+            totals: Totals {
+                accepted: 0,
+                pending: 0,
+                merged: 0,
+                delivered: 0,
+                suppressed: 0,
+                flushed: 0,
+            },
+        }
+    }
+
+    /// Makes room for so many more numbers.
+    pub(crate) fn reserve(&mut self, more: usize) -> Result<(), AllocError>
+        ensures fates { self.new.fates ≡ self.old.fates }
+        ensures room { OnOk result (more ≤ self.new.room) }
+    {
+        self.list.reserve(more)
+    }
+
+    /// How many numbers were accepted.
+    pub(crate) fn len(&self) -> usize
+        ensures { result ≡ length self.now.fates }
+    {
+        self.list.len()
+    }
+
+    /// The fate of a number, from 1.
+    pub(crate) fn at(&self, number: u64) -> Option<Fate>
+        ensures none { number ≡ 0 → result ≡ None }
+        ensures at { 1 ≤ number → result ≡ slice_get self.now.fates (number - 1) }
+    {
+        at_position(&self.list, number)
+    }
+
+    /// How many numbers there are, and how many have each fate.
+    pub(crate) fn totals(&self) -> Totals
+        ensures { result ≡ tally self.now.fates (length self.now.fates) }
+    {
+        self.totals
+    }
+
+    /// Appends this many accepted numbers, whose fate is open.
+    pub(crate) fn accept(&mut self, more: usize)
+        requires { more ≤ self.old.room }
+        ensures fates { self.new.fates ≡ self.old.fates ++ replicate more Pending }
+        ensures room { self.old.room ≤ self.new.room + more }
+    {
+        append_pending(&mut self.list, more);
+        self.totals.accepted += more as u64;
+        self.totals.pending += more as u64;
+    }
+
+    /// Writes down what ended.
+    pub(crate) fn write_all(&mut self, ended: &[Ending])
+        ensures { self.new.fates ≡ endings_noted ended.now self.old.fates }
+    {
+        for ending in ended {
+            self.write(ending);
+        }
+    }
+
+    fn write(&mut self, ending: &Ending)
+        ensures { self.new.fates ≡ ending_noted 1 ending.now self.old.fates }
+    {
+        let place = ending.number as usize;
+        if 1 <= place
+            && place <= self.list.len()
+            && same_fate(Fate::Pending, self.list[place - 1])
+        {
+            self.list[place - 1] = ending.fate;
+            self.totals = moved(&self.totals, ending.fate);
+        }
+    }
 }
 
-/// Appends an item for which a place is reserved.
-pub(crate) fn append<T: Copy>(items: &mut Vec<T>, item: &T)
-    requires { vec_len items.old < vec_capacity items.old }
-    ensures { items.new.items ≡ items.old.items ++ item.now ∷ [] }
+fn append_pending(list: &mut Vec<Fate>, more: usize)
+    requires { vec_len list.old + more ≤ vec_capacity list.old }
+    ensures items { list.new.items ≡ list.old.items ++ replicate more Pending }
+    ensures capacity { vec_capacity list.new ≡ vec_capacity list.old }
 {
-    items.push_reserved(*item);
+    for _ in 0..more {
+        list.push_reserved(Fate::Pending);
+    }
 }

@@ -1,24 +1,28 @@
-ghost use Rattle.std.specs.Prelude.{◌≡◌, ◌≢◌, ◌↔◌, ℕ, ◌≤◌, ◌<◌, ◌+◌, ◌-◌, ◌^◌, ◌⊎◌, IsSome, IsTrue, length, slice_get, IfOk, IfErr, IfSome, OnErr, Ok, Err, Some, None, false, true};
+ghost use Rattle.std.specs.Prelude.{◌≡◌, ◌≢◌, ◌↔◌, ℕ, ◌≤◌, ◌<◌, ◌+◌, ◌-◌, ◌^◌, ◌⊎◌, IsSome, IsTrue, length, slice_get, IfOk, IfErr, IfSome, OnErr, OnOk, Ok, Err, Some, None, false, true};
 ghost use Rattle.tr_model.specs.declared.checked.Checked.TheVariants.{Due};
 ghost use Rattle.tr_model.specs.declared.fates.Fate.{Fate};
 ghost use Rattle.tr_model.specs.declared.replies.Refusal.{Refusal};
 ghost use Rattle.tr_model.specs.Journals.{HasFate, consumed_by, ended_by, fate_of, occurs, totals};
 ghost use Rattle.tr_model.specs.Laws.{OneFate};
 ghost use Rattle.tr_model.specs.Causes.{cause_of};
+ghost use Rattle.tr_model.specs.Compare.{IsLet, Permits};
 ghost use Rattle.tr_model.specs.Preferred.{check};
 ghost use Rattle.tr_table.specs.Starts.{is_good, table_of};
 ghost use Rattle.tr_kernel.specs.declared.answers.Answer.TheVariants.{Refused};
 ghost use Rattle.tr_kernel.specs.Answers.{IfEntered, IfRead, IfRefused, IsReceipt};
+ghost use Rattle.tr_kernel.specs.Heard.{IsHeard, call_of};
 ghost use Rattle.tr_kernel.specs.Laws.{KillsAt, RaisedBefore, WaitsAt, consumed_at};
 ghost use Rattle.tr_kernel.specs.Notes.{notes_of};
-ghost use Rattle.tr_kernel.specs.Private.{IsRestartAt, mark_at};
-ghost use Rattle.tr_kernel.specs.States.{AcceptsFew, IsDue, IsEntered, IsHistory, IsQuiet, IsRefusal, opened};
+ghost use Rattle.tr_kernel.specs.Private.{IsRestartAt, fact_at};
+ghost use Rattle.tr_kernel.specs.States.{AcceptsFew, IsDue, IsEntered, IsHistory, IsMade, IsQuiet, IsRefusal, IsWithheld, opened};
 
 use crate::answers::{Answer, Receipt};
 use crate::entries::{report_of, write_entry};
 use crate::events::check;
-use crate::fates::{at_position, tally};
-use crate::notes::{Mark, Notes, Stopped, is_killed, mark_in};
+use crate::fates::Fates;
+use crate::hearing::{choice_of, is_admitted, is_refusal, is_reply};
+use crate::journal::Journal;
+use crate::notes::{EntryFact, Notes, Stopped, fact_in, is_killed};
 use crate::restarts::first_restart;
 use std::alloc::{AllocError, Global};
 use std::marker::Model;
@@ -41,9 +45,8 @@ pub enum StartFault {
 pub struct Kernel {
     start: Start,
     step: Step,
-    journal: Vec<Entry>,
-    replies: Vec<Reply>,
-    fates: Vec<Fate>,
+    journal: Journal,
+    fates: Fates,
     notes: Notes,
     alloc: Global,
 }
@@ -55,9 +58,9 @@ impl Model for Kernel {
 
     ghost Value = { State };
 
-    ghost view = { λ k. record { start = k.start; table = k.step.work.table; journal = k.journal.items; replies = k.replies.items; fates = k.fates.items } };
+    ghost view = { λ k. record { start = k.start; table = k.step.work.table; journal = k.journal.entries; replies = k.journal.replies; fates = k.fates.fates } };
 
-    ghost invariant = { λ k. IsHistory (record { start = k.start; table = k.step.work.table; journal = k.journal.items; replies = k.replies.items; fates = k.fates.items }) × IsNoted (table_of k.start) k.journal.items k.notes.list.items k.notes.dying.items k.notes.passed.items };
+    ghost invariant = { λ k. IsHistory (record { start = k.start; table = k.step.work.table; journal = k.journal.entries; replies = k.journal.replies; fates = k.fates.fates }) × IsNoted (table_of k.start) k.journal.entries k.notes.list.notes k.notes.dying.items k.notes.transfers.items };
 }
 
 impl Kernel {
@@ -74,9 +77,8 @@ impl Kernel {
             Ok(table) => Ok(Kernel {
                 start,
                 step: Step::new(table, alloc),
-                journal: Vec::new(alloc),
-                replies: Vec::new(alloc),
-                fates: Vec::new(alloc),
+                journal: Journal::new(alloc),
+                fates: Fates::new(alloc),
                 notes: Notes::new(alloc),
                 alloc,
             }),
@@ -106,7 +108,7 @@ impl Kernel {
         ensures one_fate { OneFate (table_of self.now.start) self.now.journal self.now.table }
         ensures one_wait { (r : ℕ) → occurs r (consumed_by self.now.journal) ≤ 1 }
     {
-        self.journal.as_slice()
+        self.journal.entries()
     }
 
     /// The reply of the entry at a position, from 1.
@@ -114,7 +116,7 @@ impl Kernel {
         ensures none { position ≡ 0 → result ≡ None }
         ensures at { 1 ≤ position → result ≡ slice_get self.now.replies (position - 1) }
     {
-        at_position(&self.replies, position)
+        self.journal.reply_at(position)
     }
 
     /// What has become of the accepted signal of a number, from 1 up: its one fate. None for 0 and for numbers not accepted
@@ -124,7 +126,7 @@ impl Kernel {
         ensures has { IfSome result (λ f. HasFate (ended_by (table_of self.now.start) self.now.journal) self.now.table number f) }
         ensures only { IfSome result (λ f. (g : Fate) → HasFate (ended_by (table_of self.now.start) self.now.journal) self.now.table number g → g ≡ f) }
     {
-        at_position(&self.fates, number)
+        self.fates.at(number)
     }
 
     /// How many signals were accepted, and how many have each fate.
@@ -132,7 +134,7 @@ impl Kernel {
         ensures totals { result ≡ totals (table_of self.now.start) self.now.journal self.now.table }
         ensures sum { result.pending + result.merged + result.delivered + result.suppressed + result.flushed ≡ result.accepted }
     {
-        tally(&self.fates, self.step.table().accepted())
+        self.fates.totals()
     }
 
     /// The report that the wait at a position, from 1, consumed; None where the entry there isn't a wait of a tracer or
@@ -144,22 +146,22 @@ impl Kernel {
         ensures raised { IfSome result (λ r. RaisedBefore (table_of self.now.start) self.now.journal position r) }
         ensures once { IfSome result (λ r. (p : ℕ) → p ≢ position → consumed_at self.now.journal p ≢ Some r) }
     {
-        report_of(&at_position(&self.journal, position))
+        report_of(&self.journal.entry_at(position))
     }
 
     /// What the entry at a position is to the laws.
-    pub(crate) fn mark_at(&self, position: u64) -> Mark
-        ensures mark { result ≡ mark_at (notes_of (table_of self.now.start) self.now.journal) position }
+    pub(crate) fn fact_at(&self, position: u64) -> EntryFact
+        ensures fact { result ≡ fact_at (notes_of (table_of self.now.start) self.now.journal) position }
         ensures history { IsHistory self.now }
     {
-        mark_in(&at_position(&self.notes.list, position))
+        fact_in(&self.notes.list.at(position))
     }
 
     /// Whether the entry at a position delivers a KILL.
     pub(crate) fn kills_at(&self, position: u64) -> bool
         ensures { IsTrue result ↔ ((g : ℕ) × KillsAt (table_of self.now.start) self.now.journal position g) }
     {
-        is_killed(&at_position(&self.notes.list, position))
+        is_killed(&self.notes.list.at(position))
     }
 
     /// The position of the first entry, between a wait for this thread's stop and a later position, that restarts the
@@ -169,11 +171,11 @@ impl Kernel {
         ensures found { IfSome result (λ k. IsRestartAt (table_of self.now.start) self.now.journal i j stop.now k) }
         ensures none { result ≡ None → (k : ℕ) → IsRestartAt (table_of self.now.start) self.now.journal i j stop.now k → ⊥ }
     {
-        let tracer = self.journal[i as usize - 1].actor;
+        let tracer = self.journal.entry(i as usize - 1).actor;
         let place = first_restart(
             stop,
             tracer,
-            &self.journal,
+            self.journal.entries(),
             &self.notes.list,
             &self.notes.dying,
             i as usize,
@@ -200,18 +202,16 @@ impl Kernel {
         ensures full { IsDue self.old actor event → self.old.table.entries ≤ length self.old.journal → result ≡ Refused Refusal.JournalFull }
         ensures history { IsHistory self.new }
     {
-        match check(self.step.table(), actor, &event) {
-            Err(why) => Answer::Refused(why),
-            Ok(Checked::Quiet(reply)) => Answer::Read(reply),
-            Ok(Checked::Due(choice)) => {
-                if self.journal.len() >= self.step.table().entries() as usize {
-                    return Answer::Refused(Refusal::JournalFull);
-                }
-                match self.enter_with_receipt(actor, &event, &choice) {
-                    Ok(receipt) => Answer::Entered(receipt),
-                    Err(why) => Answer::Refused(why),
-                }
-            }
+        let checked = match check(self.step.table(), actor, &event) {
+            Ok(checked) => checked,
+            Err(why) => return Answer::Refused(why),
+        };
+        match checked {
+            Checked::Quiet(reply) => Answer::Read(reply),
+            Checked::Due(choice) => match self.enter_with_receipt(actor, &event, choice) {
+                Ok(receipt) => Answer::Entered(receipt),
+                Err(why) => Answer::Refused(why),
+            },
         }
     }
 
@@ -232,24 +232,92 @@ impl Kernel {
         }
     }
 
-    /// Makes the entry of an event that is due, and gives its receipt. Where memory is refused nothing has changed.
+    /// Hears what another system answered to a call of an actor, and says whether the model lets the call have that
+    /// answer: a refusal, an answer without an entry, or the reply of a step, whatever was chosen. Where it is that of a
+    /// step the kernel makes that step, else nothing changes.
+    ///
+    /// `JournalFull` and `NoMemory` come only where it is that of a step, as for `step_as`; nothing has changed then.
+    pub fn hear(
+        &mut self,
+        actor: u32,
+        event: Event,
+        told: &Result<Reply, Refusal>,
+    ) -> Result<bool, Refusal>
+        ensures heard { IsHeard self.old actor event told.now result self.new }
+        ensures full { IsDue self.old actor event → IsLet self.old.table (call_of actor event) told.now → self.old.table.entries ≤ length self.old.journal → result ≡ Err Refusal.JournalFull }
+        ensures bounded { AcceptsFew self.old.table self.new.table }
+        ensures history { IsHistory self.new }
+    {
+        let found = match check(self.step.table(), actor, &event) {
+            Ok(checked) => checked,
+            Err(why) => return Ok(is_refusal(told, why)),
+        };
+        match found {
+            Checked::Quiet(reply) => Ok(is_reply(told, &reply)),
+            Checked::Due(_) => match told {
+                Ok(reply) => self.hear_reply(actor, &event, reply),
+                Err(_) => Ok(false),
+            },
+        }
+    }
+
+    /// Hears a reply to an event that is due.
+    fn hear_reply(&mut self, actor: u32, event: &Event, told: &Reply) -> Result<bool, Refusal>
+        requires due { IsDue self.old actor event.now }
+        ensures heard { IsHeard self.old actor event.now (Ok told.now) result self.new }
+        ensures full { IsLet self.old.table (call_of actor event.now) (Ok told.now) → self.old.table.entries ≤ length self.old.journal → result ≡ Err Refusal.JournalFull }
+        ensures bounded { AcceptsFew self.old.table self.new.table }
+        ensures history { IsHistory self.new }
+    {
+        if !is_admitted(&self.step, actor, event, told) {
+            return Ok(false);
+        }
+        match self.step_as(actor, event, choice_of(event, told)) {
+            Ok(_) => Ok(true),
+            Err(why) => Err(why),
+        }
+    }
+
+    /// Makes the entry of an event that is due, with any choice that the model admits for it.
+    ///
+    /// `JournalFull` comes exactly where the journal has as many entries as the entry limit; `NoMemory` only where it isn't
+    /// full. After a refusal nothing has changed.
+    pub fn step_as(&mut self, actor: u32, event: &Event, choice: Choice) -> Result<Reply, Refusal>
+        requires due { Permits self.old.table actor event.now choice }
+        ensures ok { IfOk result (λ reply. IsMade self.old (record { actor = actor; event = event.now; choice = choice }) reply self.new) }
+        ensures room { OnOk result (length self.old.journal < self.old.table.entries) }
+        ensures err { IfErr result (λ why. IsWithheld self.old why) }
+        ensures unchanged { OnErr result (self.new ≡ self.old) }
+        ensures full { self.old.table.entries ≤ length self.old.journal → result ≡ Err Refusal.JournalFull }
+        ensures bounded { AcceptsFew self.old.table self.new.table }
+        ensures history { IsHistory self.new }
+    {
+        if self.journal.entries().len() >= self.step.table().entries() as usize {
+            return Err(Refusal::JournalFull);
+        }
+        self.enter(actor, event, choice)
+    }
+
+    /// Makes the entry of an event that is due, with this product's choice, and gives its receipt.
     #[inline(always)]
     fn enter_with_receipt(
         &mut self,
         actor: u32,
         event: &Event,
-        choice: &Choice,
+        choice: Choice,
     ) -> Result<Receipt, Refusal>
-        requires few { length self.old.journal < 2 ^ 32 }
-        requires due { check self.old.table actor event.now ≡ Ok (Due choice.now) }
+        requires due { check self.old.table actor event.now ≡ Ok (Due choice) }
+        requires admitted { Permits self.old.table actor event.now choice }
         ensures entered { IfOk result (λ r. IsEntered self.old actor event.now r.reply self.new) }
         ensures receipt { IfOk result (λ r. IsReceipt r event.now self.old self.new) }
-        ensures err { IfErr result (λ why. why ≡ Refusal.NoMemory) }
+        ensures room { OnOk result (length self.old.journal < self.old.table.entries) }
+        ensures err { IfErr result (λ why. IsWithheld self.old why) }
         ensures unchanged { OnErr result (self.new ≡ self.old) }
+        ensures full { self.old.table.entries ≤ length self.old.journal → result ≡ Err Refusal.JournalFull }
         ensures history { IsHistory self.new }
     {
         let accepted = self.table().accepted();
-        let reply = self.enter(actor, event, choice)?;
+        let reply = self.step_as(actor, event, choice)?;
         Ok(Receipt {
             position: self.journal().len() as u64,
             event: *event,
@@ -259,10 +327,10 @@ impl Kernel {
     }
 
     /// Makes the entry of an event that is due. Where memory is refused nothing has changed.
-    fn enter(&mut self, actor: u32, event: &Event, choice: &Choice) -> Result<Reply, Refusal>
+    fn enter(&mut self, actor: u32, event: &Event, choice: Choice) -> Result<Reply, Refusal>
         requires few { length self.old.journal < 2 ^ 32 }
-        requires due { check self.old.table actor event.now ≡ Ok (Due choice.now) }
-        ensures ok { IfOk result (λ reply. IsEntered self.old actor event.now reply self.new) }
+        requires due { Permits self.old.table actor event.now choice }
+        ensures ok { IfOk result (λ reply. IsMade self.old (record { actor = actor; event = event.now; choice = choice }) reply self.new) }
         ensures err { IfErr result (λ why. why ≡ Refusal.NoMemory) }
         ensures unchanged { OnErr result (self.new ≡ self.old) }
         ensures bounded { AcceptsFew self.old.table self.new.table }
@@ -271,7 +339,6 @@ impl Kernel {
         let made = write_entry(
             &mut self.step,
             &mut self.journal,
-            &mut self.replies,
             &mut self.fates,
             &mut self.notes,
             self.alloc,

@@ -8,7 +8,7 @@ ghost use Rattle.tr_kernel.specs.Laws.{KilledBy, OnlyDyingAt, RestartBetween, Ta
 ghost use Rattle.tr_kernel.specs.Private.{SameQueue};
 
 use crate::kernels::Kernel;
-use crate::notes::{Mark, TakenFrom};
+use crate::notes::{EntryFact, TakenFrom};
 
 /// One wait for each report: whether these are two different entries that are waits, of tracers or the starter. Then
 /// they consumed different reports.
@@ -29,10 +29,10 @@ pub fn restart_between(kernel: &Kernel, i: u64, j: u64) -> Option<u64>
     ensures exactly { IsSome result ↔ TwoStops (table_of kernel.now.start) kernel.now.journal i j }
     ensures between { IfSome result (λ k. RestartBetween (table_of kernel.now.start) kernel.now.journal i j k) }
 {
-    let Mark::Stop(first) = kernel.mark_at(i) else {
+    let EntryFact::Stop(first) = kernel.fact_at(i) else {
         return None;
     };
-    let Mark::Stop(second) = kernel.mark_at(j) else {
+    let EntryFact::Stop(second) = kernel.fact_at(j) else {
         return None;
     };
     if i < j && first.thread == second.thread {
@@ -55,7 +55,9 @@ pub fn only_dying(kernel: &Kernel, i: u64, j: u64) -> bool
 fn is_same_queue(first: &TakenFrom, second: &TakenFrom) -> bool
     ensures { IsTrue result ↔ SameQueue first.now second.now }
 {
-    first.signal == second.signal && first.queue == second.queue && first.passed == second.passed
+    first.signal == second.signal
+        && first.queue == second.queue
+        && first.transfers == second.transfers
 }
 
 /// First accepted, first taken: whether the entries at `i` and, later, `j` took instances of one signal from one queue,
@@ -65,10 +67,10 @@ pub fn in_order(kernel: &Kernel, i: u64, j: u64) -> bool
     ensures exactly { IsTrue result ↔ TwoTakes (table_of kernel.now.start) kernel.now.journal i j }
     ensures order { IsTrue result → TakenInOrder (table_of kernel.now.start) kernel.now.journal i j }
 {
-    let Mark::Take(first) = kernel.mark_at(i) else {
+    let EntryFact::Take(first) = kernel.fact_at(i) else {
         return false;
     };
-    let Mark::Take(second) = kernel.mark_at(j) else {
+    let EntryFact::Take(second) = kernel.fact_at(j) else {
         return false;
     };
     i < j && is_same_queue(&first, &second)

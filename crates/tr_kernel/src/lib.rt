@@ -5,9 +5,14 @@ mod answers;
 mod entries;
 mod events;
 mod fates;
+mod hearing;
+mod journal;
 mod kernels;
 pub mod laws;
+mod lists;
+mod note_list;
 mod notes;
+mod replies;
 mod restarts;
 
 pub use answers::{Answer, Receipt};

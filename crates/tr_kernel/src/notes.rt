@@ -1,8 +1,9 @@
 ghost use Rattle.std.specs.Prelude.{◌≡◌, ◌≤◌, ◌<◌, ◌+◌, ◌++◌, ◌∷◌, ◌^◌, [], ℕ, false, length, not, option_copied, slice_get, vec_len, vec_capacity, OnOk};
-ghost use Rattle.tr_kernel.specs.Notes.{exec_mark, is_some_group, is_stop_status, shows_stop, stop_mark, times};
-ghost use Rattle.tr_kernel.specs.Private.{PassOn, killed_in, mark_after, mark_before, mark_in, passes_in};
+ghost use Rattle.tr_kernel.specs.Notes.{exec_fact, is_some_group, is_stop_status, shows_stop, stop_fact, times};
+ghost use Rattle.tr_kernel.specs.Private.{AreTransferred, killed_in, fact_after, fact_before, fact_in, note_with, transfers_in};
 
-use crate::fates::{append, at_position};
+use crate::lists::append;
+use crate::note_list::NoteList;
 use std::alloc::{AllocError, Global};
 use tr_model::{Choice, Event, Reply, Target};
 use tr_requests::ready_thread;
@@ -27,12 +28,12 @@ pub(crate) struct TakenFrom {
     pub(crate) number: u64,
     pub(crate) signal: Signal,
     pub(crate) queue: Target,
-    pub(crate) passed: u64,
+    pub(crate) transfers: u64,
 }
 
 /// What an entry is to the laws.
 #[derive(Clone, Copy)]
-pub(crate) enum Mark {
+pub(crate) enum EntryFact {
     Nothing,
     /// A tracer's wait for a stop.
     Stop(Stopped),
@@ -44,7 +45,7 @@ pub(crate) enum Mark {
 /// What an entry leaves.
 #[derive(Clone, Copy)]
 pub(crate) struct Note {
-    pub(crate) mark: Mark,
+    pub(crate) fact: EntryFact,
     /// It delivered a KILL.
     pub(crate) killed: bool,
     /// How many deaths of groups had begun after it.
@@ -53,7 +54,7 @@ pub(crate) struct Note {
 
 /// How often an id passed to another thread.
 #[derive(Clone, Copy)]
-pub(crate) struct Passed {
+pub(crate) struct IdTransfer {
     pub(crate) id: u32,
     pub(crate) times: u64,
 }
@@ -62,9 +63,9 @@ pub(crate) struct Passed {
 /// another thread stands how often.
 #[derive(Drop)]
 pub(crate) struct Notes {
-    pub(crate) list: Vec<Note>,
+    pub(crate) list: NoteList,
     pub(crate) dying: Vec<u32>,
-    pub(crate) passed: Vec<Passed>,
+    pub(crate) transfers: Vec<IdTransfer>,
 }
 
 // What the table shows before the step
@@ -88,56 +89,56 @@ fn shows_stop(report: &Option<Report>) -> bool
     }
 }
 
-fn stop_mark(thread: Option<&Thread>) -> Mark
-    ensures { result ≡ stop_mark (option_copied thread.entry) }
+fn stop_fact(thread: Option<&Thread>) -> EntryFact
+    ensures { result ≡ stop_fact (option_copied thread.entry) }
 {
     match thread {
         Some(thread) => {
             if shows_stop(&thread.report) {
-                Mark::Stop(Stopped {
+                EntryFact::Stop(Stopped {
                     thread: thread.id,
                     group: thread.group,
                 })
             } else {
-                Mark::Nothing
+                EntryFact::Nothing
             }
         }
-        None => Mark::Nothing,
+        None => EntryFact::Nothing,
     }
 }
 
-fn exec_mark(thread: Option<&Thread>) -> Mark
-    ensures { result ≡ exec_mark (option_copied thread.entry) }
+fn exec_fact(thread: Option<&Thread>) -> EntryFact
+    ensures { result ≡ exec_fact (option_copied thread.entry) }
 {
     match thread {
-        Some(thread) => Mark::Exec(thread.group),
-        None => Mark::Nothing,
+        Some(thread) => EntryFact::Exec(thread.group),
+        None => EntryFact::Nothing,
     }
 }
 
 /// What an entry is to the laws, as far as the table before it shows.
-pub(crate) fn mark_before(table: &Table, actor: u32, event: &Event, choice: &Choice) -> Mark
-    ensures { result ≡ mark_before table.now.table actor event.now choice.now }
+pub(crate) fn fact_before(table: &Table, actor: u32, event: &Event, choice: Choice) -> EntryFact
+    ensures { result ≡ fact_before table.now.table actor event.now choice }
 {
     match event {
-        Event::Wait { which } => stop_mark(ready_thread(
-            table.threads(),
+        Event::Wait { which } => stop_fact(ready_thread(
+            table,
             actor,
             *which,
-            choice.report.unwrap_or(0),
+            choice.report().unwrap_or(0),
         )),
-        Event::Exec { tid } => exec_mark(table.find(*tid)),
-        _ => Mark::Nothing,
+        Event::Exec { tid } => exec_fact(table.find(*tid)),
+        _ => EntryFact::Nothing,
     }
 }
 
 // What passed on
 
 /// How often an id passed on.
-fn times(passed: &[Passed], id: u32) -> u64
-    ensures { result ≡ times id passed.now }
+fn times(transfers: &[IdTransfer], id: u32) -> u64
+    ensures { result ≡ times id transfers.now }
 {
-    for entry in passed {
+    for entry in transfers {
         if entry.id == id {
             return entry.times;
         }
@@ -145,64 +146,69 @@ fn times(passed: &[Passed], id: u32) -> u64
     0
 }
 
-fn passes_in(passed: &[Passed], queue: Target) -> u64
-    ensures { result ≡ passes_in passed.now queue }
+fn transfers_in(transfers: &[IdTransfer], queue: Target) -> u64
+    ensures { result ≡ transfers_in transfers.now queue }
 {
     match queue {
-        Target::Thread(id) => times(passed, id),
+        Target::Thread(id) => times(transfers, id),
         Target::Group(_) => 0,
     }
 }
 
 /// An id passes on once more.
-#[tactic(auto, using(crate::proofs::Bumped::set_counts, crate::proofs::Bumped::append_counts))]
-fn bump(passed: &mut Vec<Passed>, id: u32)
-    requires room { vec_len passed.old < vec_capacity passed.old }
-    requires few { times id passed.old.items < 2 ^ 32 }
-    ensures { PassOn (id ∷ []) passed.old.items passed.new.items }
+#[tactic(auto, using(crate::proofs::Transfers::set_counts, crate::proofs::Transfers::append_counts))]
+fn count_transfer(transfers: &mut Vec<IdTransfer>, id: u32)
+    requires room { vec_len transfers.old < vec_capacity transfers.old }
+    requires few { times id transfers.old.items < 2 ^ 32 }
+    ensures { AreTransferred (id ∷ []) transfers.old.items transfers.new.items }
 {
-    for place in 0..passed.len() {
-        if passed[place].id == id {
-            passed[place].times += 1;
+    for place in 0..transfers.len() {
+        if transfers[place].id == id {
+            transfers[place].times += 1;
             return;
         }
     }
-    append(passed, &Passed { id, times: 1 });
+    append(transfers, &IdTransfer { id, times: 1 });
 }
 
-fn bump_first(passed: &mut Vec<Passed>, ids: &[u32])
-    requires room { vec_len passed.old < vec_capacity passed.old }
-    requires few { (n : ℕ) → times n passed.old.items < 2 ^ 32 }
+fn count_first_transfer(transfers: &mut Vec<IdTransfer>, ids: &[u32])
+    requires room { vec_len transfers.old < vec_capacity transfers.old }
+    requires few { (n : ℕ) → times n transfers.old.items < 2 ^ 32 }
     requires one { length ids.now ≤ 1 }
-    ensures { PassOn ids.now passed.old.items passed.new.items }
+    ensures { AreTransferred ids.now transfers.old.items transfers.new.items }
 {
     if let Some(id) = ids.first() {
-        bump(passed, *id);
+        count_transfer(transfers, *id);
     }
 }
 
 // What the step shows
 
-fn took_mark(mark: Mark, queue: Target, passed: &[Passed], reply: &Reply) -> Mark
-    ensures { result ≡ mark_after mark (Some queue) passed.now reply.now }
+fn took_fact(fact: EntryFact, queue: Target, transfers: &[IdTransfer], reply: &Reply) -> EntryFact
+    ensures { result ≡ fact_after fact (Some queue) transfers.now reply.now }
 {
     match reply {
-        Reply::Took { inst, .. } => Mark::Take(TakenFrom {
+        Reply::Took { inst, .. } => EntryFact::Take(TakenFrom {
             number: inst.n,
             signal: inst.sig,
             queue,
-            passed: passes_in(passed, queue),
+            transfers: transfers_in(transfers, queue),
         }),
-        _ => mark,
+        _ => fact,
     }
 }
 
-fn mark_after(mark: Mark, reply: &Reply, queue: Option<Target>, passed: &[Passed]) -> Mark
-    ensures { result ≡ mark_after mark queue passed.now reply.now }
+fn fact_after(
+    fact: EntryFact,
+    reply: &Reply,
+    queue: Option<Target>,
+    transfers: &[IdTransfer],
+) -> EntryFact
+    ensures { result ≡ fact_after fact queue transfers.now reply.now }
 {
     match queue {
-        Some(queue) => took_mark(mark, queue, passed, reply),
-        None => mark,
+        Some(queue) => took_fact(fact, queue, transfers, reply),
+        None => fact,
     }
 }
 
@@ -217,12 +223,12 @@ fn append_all(list: &mut Vec<u32>, more: &[u32])
 
 // What a note says
 
-pub(crate) fn mark_in(note: &Option<Note>) -> Mark
-    ensures { result ≡ mark_in note.now }
+pub(crate) fn fact_in(note: &Option<Note>) -> EntryFact
+    ensures { result ≡ fact_in note.now }
 {
     match note {
-        Some(note) => note.mark,
-        None => Mark::Nothing,
+        Some(note) => note.fact,
+        None => EntryFact::Nothing,
     }
 }
 
@@ -237,47 +243,49 @@ pub(crate) fn is_killed(note: &Option<Note>) -> bool
 
 impl Notes {
     pub(crate) fn new(alloc: Global) -> Notes
-        ensures { (result.list.items ≡ []) × (result.dying.items ≡ []) × (result.passed.items ≡ []) }
+        ensures { (result.list.notes ≡ []) × (result.dying.items ≡ []) × (result.transfers.items ≡ []) }
     {
         Notes {
-            list: Vec::new(alloc),
+            list: NoteList::new(alloc),
             dying: Vec::new(alloc),
-            passed: Vec::new(alloc),
+            transfers: Vec::new(alloc),
         }
     }
 
     /// Makes room for the note of one entry, by which at most this many deaths of groups begin. Where memory is refused
     /// the notes are as before.
     pub(crate) fn reserve(&mut self, deaths: usize) -> Result<(), AllocError>
-        ensures list { self.new.list.items ≡ self.old.list.items }
+        ensures list { self.new.list.notes ≡ self.old.list.notes }
         ensures dying { self.new.dying.items ≡ self.old.dying.items }
-        ensures passed { self.new.passed.items ≡ self.old.passed.items }
-        ensures room { OnOk result ((vec_len self.new.list < vec_capacity self.new.list) × (vec_len self.new.dying + deaths ≤ vec_capacity self.new.dying) × (vec_len self.new.passed < vec_capacity self.new.passed)) }
+        ensures transfers { self.new.transfers.items ≡ self.old.transfers.items }
+        ensures note_room { OnOk result (0 < self.new.list.room) }
+        ensures dying_room { OnOk result (vec_len self.new.dying + deaths ≤ vec_capacity self.new.dying) }
+        ensures transfer_room { OnOk result (vec_len self.new.transfers < vec_capacity self.new.transfers) }
     {
-        self.list.reserve(1)?;
+        self.list.reserve_one()?;
         self.dying.reserve(deaths)?;
-        self.passed.reserve(1)
+        self.transfers.reserve(1)
     }
 
     /// Notes an entry, for which there is room: what it was before the step, and what the step made.
-    pub(crate) fn note(&mut self, mark: Mark, step: &Step, reply: &Reply)
-        requires list { vec_len self.old.list < vec_capacity self.old.list }
+    pub(crate) fn note(&mut self, fact: EntryFact, step: &Step, reply: &Reply)
+        requires list { (0 < self.old.list.room) × (length self.old.list.notes < 2 ^ 32) }
         requires dying { vec_len self.old.dying + length step.now.work.dying ≤ vec_capacity self.old.dying }
-        requires passed { vec_len self.old.passed < vec_capacity self.old.passed }
-        requires few { (n : ℕ) → times n self.old.passed.items < 2 ^ 32 }
+        requires transfers { vec_len self.old.transfers < vec_capacity self.old.transfers }
+        requires few { (n : ℕ) → times n self.old.transfers.items < 2 ^ 32 }
         requires one { length step.now.work.renamed ≤ 1 }
-        ensures list { self.new.list.items ≡ self.old.list.items ++ record { mark = mark_after mark step.now.taken_from self.old.passed.items reply.now; killed = is_some_group step.now.work.killed; deaths = length self.old.dying.items + length step.now.work.dying } ∷ [] }
+        ensures list { self.new.list.notes ≡ self.old.list.notes ++ note_with (fact_after fact step.now.taken_from self.old.transfers.items reply.now) (length self.old.dying.items) step.now.work ∷ [] }
         ensures dying { self.new.dying.items ≡ self.old.dying.items ++ step.now.work.dying }
-        ensures passed { PassOn step.now.work.renamed self.old.passed.items self.new.passed.items }
+        ensures transfers { AreTransferred step.now.work.renamed self.old.transfers.items self.new.transfers.items }
     {
-        let mark = mark_after(mark, reply, step.taken_from(), &self.passed);
+        let fact = fact_after(fact, reply, step.taken_from(), &self.transfers);
         append_all(&mut self.dying, step.dying());
-        bump_first(&mut self.passed, step.renamed());
+        count_first_transfer(&mut self.transfers, step.renamed());
         let note = Note {
-            mark,
+            fact,
             killed: !step.killed().is_empty(),
             deaths: self.dying.len() as u64,
         };
-        append(&mut self.list, &note);
+        self.list.push(&note);
     }
 }

@@ -1,45 +1,54 @@
 ghost use Rattle.std.specs.Prelude.{◌≡◌, ◌≤◌, ◌<◌, ◌-◌, ◌+◌, ◌==◌, ◌&&◌, ◌||◌, ℕ, None, true, false, not, length, take, drop, slice_get, IfSome};
 ghost use Rattle.std.specs.List.{list_any};
-ghost use Rattle.tr_kernel.specs.Private.{AreOrdered, deaths_to, is_exec_in, is_restart, restarts_at};
+ghost use Rattle.tr_kernel.specs.Private.{AreOrdered, deaths_in, deaths_to, is_exec_in, is_restart, restarts_at};
 
-use crate::notes::{Mark, Note, Stopped};
+use crate::note_list::NoteList;
+use crate::notes::{EntryFact, Note, Stopped};
 use tr_model::{Entry, Event};
 
 // Which entry restarted a thread whose stop was consumed, or broke its stop: the first of those between two waits.
 
 /// Whether the entry is an execve(2) by a thread of this group.
-fn is_exec_in(group: u32, mark: &Mark) -> bool
-    ensures { result ≡ is_exec_in group mark.now }
+fn is_exec_in(group: u32, fact: &EntryFact) -> bool
+    ensures { result ≡ is_exec_in group fact.now }
 {
-    match mark {
-        Mark::Exec(of) => *of == group,
+    match fact {
+        EntryFact::Exec(of) => *of == group,
         _ => false,
     }
 }
 
 /// Whether the entry restarts the thread, is the end of its tracer, or an execve(2) of another thread of its group.
-fn is_restart(stop: &Stopped, tracer: u32, entry: &Entry, mark: &Mark) -> bool
-    ensures { result ≡ is_restart stop.now tracer entry.now.actor entry.now.event mark.now }
+fn is_restart(stop: &Stopped, tracer: u32, entry: &Entry, fact: &EntryFact) -> bool
+    ensures { result ≡ is_restart stop.now tracer entry.now.actor entry.now.event fact.now }
 {
     match &entry.event {
         Event::Cont { tid, .. } => *tid == stop.thread,
         Event::Listen { tid } => *tid == stop.thread,
         Event::Detach { tid, .. } => *tid == stop.thread,
         Event::TracerExit => entry.actor == tracer,
-        Event::Exec { tid } => *tid != stop.thread && is_exec_in(stop.group, mark),
+        Event::Exec { tid } => *tid != stop.thread && is_exec_in(stop.group, fact),
         _ => false,
     }
 }
 
-/// How many deaths of groups had begun before the entry at a place, counted from 0.
-fn deaths_to(notes: &[Note], place: usize) -> u64
-    requires { place ≤ length notes.now }
-    ensures { result ≡ deaths_to notes.now place }
+fn deaths_in(note: &Option<Note>) -> u64
+    ensures { result ≡ deaths_in note.now }
 {
-    if place == 0 {
-        0
-    } else {
-        notes[place - 1].deaths
+    match note {
+        Some(note) => note.deaths,
+        None => 0,
+    }
+}
+
+/// How many deaths of groups had begun before the entry at a place, counted from 0.
+fn deaths_to(notes: &NoteList, place: usize) -> u64
+    requires { place ≤ length notes.now.notes }
+    ensures { result ≡ deaths_to notes.now.notes place }
+{
+    match place.checked_sub(1) {
+        Some(last) => deaths_in(&notes.get(last)),
+        None => 0,
     }
 }
 
@@ -58,22 +67,20 @@ fn restarts_at(
     stop: &Stopped,
     tracer: u32,
     journal: &[Entry],
-    notes: &[Note],
+    notes: &NoteList,
     dying: &[u32],
     place: usize,
 ) -> bool
     requires place { place < length journal.now }
-    requires notes { length notes.now ≡ length journal.now }
-    requires ordered { AreOrdered notes.now (length dying.now) }
-    ensures { result ≡ restarts_at stop.now tracer journal.now notes.now dying.now place }
+    requires notes { length notes.now.notes ≡ length journal.now }
+    requires ordered { AreOrdered notes.now.notes (length dying.now) }
+    ensures { result ≡ restarts_at stop.now tracer journal.now notes.now.notes dying.now place }
 {
-    is_restart(stop, tracer, &journal[place], &notes[place].mark)
-        || died(
-            dying,
-            deaths_to(notes, place),
-            notes[place].deaths,
-            stop.group,
-        )
+    let Some(note) = notes.get(place) else {
+        return false;
+    };
+    is_restart(stop, tracer, &journal[place], &note.fact)
+        || died(dying, deaths_to(notes, place), note.deaths, stop.group)
 }
 
 /// The first place, of those from one up to another, whose entry restarts the thread or begins the death of its group.
@@ -81,16 +88,16 @@ pub(crate) fn first_restart(
     stop: &Stopped,
     tracer: u32,
     journal: &[Entry],
-    notes: &[Note],
+    notes: &NoteList,
     dying: &[u32],
     from: usize,
     to: usize,
 ) -> Option<usize>
     requires to { to ≤ length journal.now }
-    requires notes { length notes.now ≡ length journal.now }
-    requires ordered { AreOrdered notes.now (length dying.now) }
-    ensures found { IfSome result (λ p. (from ≤ p) × (p < to) × (restarts_at stop.now tracer journal.now notes.now dying.now p ≡ true)) }
-    ensures none { result ≡ None → (p : ℕ) → from ≤ p → p < to → restarts_at stop.now tracer journal.now notes.now dying.now p ≡ false }
+    requires notes { length notes.now.notes ≡ length journal.now }
+    requires ordered { AreOrdered notes.now.notes (length dying.now) }
+    ensures found { IfSome result (λ p. (from ≤ p) × (p < to) × (restarts_at stop.now tracer journal.now notes.now.notes dying.now p ≡ true)) }
+    ensures none { result ≡ None → (p : ℕ) → from ≤ p → p < to → restarts_at stop.now tracer journal.now notes.now.notes dying.now p ≡ false }
 {
     for place in from..to {
         if restarts_at(stop, tracer, journal, notes, dying, place) {

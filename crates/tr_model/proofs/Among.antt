@@ -5,7 +5,7 @@ use Rattle.std.specs.List.{list_any}
 use Rattle.std.proofs.lemmas.Bool.{eq-eqb, true≢false, or_left, or_right}
 use Rattle.tr_tracee.specs.declared.thread.Thread.{Thread}
 use Rattle.tr_model.specs.Takes.{is_empty}
-use Rattle.tr_model.specs.Journals.{ids_of, occurs}
+use Rattle.tr_model.specs.Journals.{IsIn, ids_of, occurs}
 
 abbrev pub Among : {A : Type 0} → A → List A → Type 0
 Among x [] = ⊥
@@ -21,6 +21,16 @@ among_left x (y ∷ ys) zs (inr m) = inr (among_left x ys zs m)
 pub among_right : {A : Type 0} (x : A) (ys zs : List A) → Among x zs → Among x (ys ++ zs)
 among_right x [] zs m = m
 among_right x (y ∷ ys) zs m = inr (among_right x ys zs m)
+
+-- Numbers in a list
+
+pub occurs-append : (n : ℕ) (xs ys : List ℕ) → occurs n (xs ++ ys) ≡ occurs n xs + occurs n ys
+occurs-append n [] ys = omega arith
+occurs-append n (x ∷ xs) ys = omega (arith, occurs-append n xs ys)
+
+pub is_in-last : (n : ℕ) (xs : List ℕ) → IsIn n (xs ++ n ∷ [])
+is_in-last n [] = inl refl
+is_in-last n (x ∷ xs) = inr (is_in-last n xs)
 
 -- Tests
 

@@ -17,7 +17,7 @@ use Rattle.tr_model.specs.Laws.{PassesOn}
 use Rattle.tr_model.specs.Tables.{Table}
 use Rattle.tr_model.specs.Journals
 use Rattle.tr_model.specs.Laws
-use Rattle.tr_model.specs.Requests
+use Rattle.tr_model.specs.Tracers
 use Rattle.tr_model.specs.Steps
 use Rattle.tr_model.specs.Tables
 use Rattle.tr_tracee.specs.Threads
@@ -71,8 +71,8 @@ found_member t (x ∷ ts) l m = go (x.id == t.id) refl l m (found_member t ts)
 
 waits_for : (T : Table) (e : Entry) (t : Thread) → Sane T → Laws.ConsumesStop T e t → WaitsFor T e t
 waits_for T e t s c =
-    let f = found_in c.1 t (filter (λ t. Words.asks_for c.0 t.id) (Requests.tracees T e.actor)) c.5 in
-    let m = (member_filter (Threads.is_tracee_of e.actor) t T.threads (member_filter (λ t. Words.asks_for c.0 t.id) t (Requests.tracees T e.actor) f.0).0).0 in
+    let f = found_in c.1 t (filter (λ t. Words.asks_for c.0 t.id) (Tracers.tracees T e.actor)) c.5 in
+    let m = (member_filter (Threads.is_tracee_of e.actor) t T.threads (member_filter (λ t. Words.asks_for c.0 t.id) t (Tracers.tracees T e.actor) f.0).0).0 in
     (c.0, c.1, c.3, c.4, c.5, found_member t T.threads (s.once t.id) m, each_member Speaks t T.threads s.spoken m c.2 c.6 c.7)
 
 pub restart_stands : Laws.RestartStandsBetween

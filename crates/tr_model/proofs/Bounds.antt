@@ -23,7 +23,7 @@ use Rattle.tr_tracee.specs.Threads
 use Rattle.tr_tracee.specs.Ends as TraceeEnds
 use Rattle.tr_tracee.specs.declared.life.End.TheVariants as ending
 use Rattle.tr_group.specs.declared.stops.Action.{Action}
-use Rattle.tr_model.specs.declared.events.Choice.{Choice}
+use Rattle.tr_model.specs.Choices.{Choice}
 use Rattle.tr_model.specs.declared.events.Entry.{Entry}
 use Rattle.tr_model.specs.declared.events.Event.{Event}
 use Rattle.tr_model.specs.declared.events.Event.TheVariants as event
@@ -38,19 +38,23 @@ use Rattle.tr_model.specs.declared.rows.Target.TheVariants as target
 use Rattle.tr_model.specs.Causes
 use Rattle.tr_model.specs.Deaths
 use Rattle.tr_model.specs.Ends
+use Rattle.tr_model.specs.Clones
 use Rattle.tr_model.specs.Execs
 use Rattle.tr_model.specs.GroupStops
 use Rattle.tr_model.specs.Journals
 use Rattle.tr_model.specs.Laws
 use Rattle.tr_model.specs.Moves
 use Rattle.tr_model.specs.Moves.{Work}
-use Rattle.tr_model.specs.Requests
+use Rattle.tr_model.specs.Restarts
+use Rattle.tr_model.specs.Tracers
+use Rattle.tr_model.specs.Tracing
 use Rattle.tr_model.specs.Sends
 use Rattle.tr_model.specs.Steps
 use Rattle.tr_model.specs.Stops
 use Rattle.tr_model.specs.Tables
 use Rattle.tr_model.specs.Tables.{Table}
 use Rattle.tr_model.specs.Takes
+use Rattle.tr_model.specs.StarterWaits
 use Rattle.tr_model.specs.Waits
 use Rattle.tr_model.proofs.Costs.{Cost, cost, nothing, both, times, Bound, neither, chain, within, less, none, after_still, then_still, branch, filter-le-length, alters, becomes, changes, regroups, notes, on_threads, ats, enters, holds, reports, spawns, removes, passing, take_places, drops, enqueues, accepts_as, ends_waiting}
 
@@ -211,16 +215,16 @@ passes_on t (Some r) w = after_still w (Moves.alter (Threads.at_thread t.id Trac
 
 -- Requests
 
-attaches : (a : ℕ) (t : Thread) (w : Work) → Bound (cost 1 2 0 1) w (Requests.attach a t w)
+attaches : (a : ℕ) (t : Thread) (w : Work) → Bound (cost 1 2 0 1) w (Tracing.attach a t w)
 attaches a t w = after_still w _ _ (alters _ w) (chain _ _ _ (sends 19 _ (target.Thread t.id) _) (shows t _))
 
-seizes : (a : ℕ) (o : Options) (t : Thread) (w : Work) → Bound (cost 0 1 0 0) w (Requests.seize a o t w)
+seizes : (a : ℕ) (o : Options) (t : Thread) (w : Work) → Bound (cost 0 1 0 0) w (Tracing.seize a o t w)
 seizes a o t w = after_still w _ _ (alters _ w) (shows t _)
 
-injects : (t : Thread) (s : ℕ) (w : Work) → Bound (cost 1 0 0 1) w (Requests.inject t s w)
+injects : (t : Thread) (s : ℕ) (w : Work) → Bound (cost 1 0 0 1) w (Restarts.inject t s w)
 injects t s w = branch w _ _ _ (less (puts s _ (target.Thread t.id) w) refl) (chain w (Moves.accept_as Delivered w) _ (accepts_as Delivered w) (acts t s _ _ (Moves.accept_as Delivered w)))
 
-restarts : (t : Thread) (s : ℕ) (o : Option Instance) (w : Work) → Bound (cost 1 0 0 1) w (Requests.restart_held t s o w)
+restarts : (t : Thread) (s : ℕ) (o : Option Instance) (w : Work) → Bound (cost 1 0 0 1) w (Restarts.restart_held t s o w)
 restarts t s None w = less (changes Flushed TraceeStops.restarted t w) refl
 restarts t s (Some i) w =
     branch w (s == 0) _ _ (less (changes Suppressed TraceeStops.restarted t w) refl)
@@ -228,44 +232,44 @@ restarts t s (Some i) w =
     (after_still w _ _ (changes Suppressed TraceeStops.restarted t w) (injects t s _)))
 
 -- with what it holds nothing is accepted
-keeps_held : (t : Thread) (o : Option Instance) (w : Work) → Bound (cost 0 0 0 1) w (Requests.restart_held t (Requests.held_signal o) o w)
+keeps_held : (t : Thread) (o : Option Instance) (w : Work) → Bound (cost 0 0 0 1) w (Restarts.restart_held t (Tracers.held_signal o) o w)
 keeps_held t None w = less (changes Flushed TraceeStops.restarted t w) refl
 keeps_held t (Some i) w = branch w (i.sig == 0) _ _ (less (changes Suppressed TraceeStops.restarted t w) refl) (own (i.sig == i.sig) (eq-eqb i.sig i.sig refl))
   where
-    own : (b : Bool) → b ≡ true → Bound (cost 0 0 0 1) w (if b then Takes.act_on t i.sig (Lives.cont_came t.life) (Requests.resume Delivered t w) else Requests.inject t i.sig (Requests.resume Suppressed t w))
+    own : (b : Bool) → b ≡ true → Bound (cost 0 0 0 1) w (if b then Takes.act_on t i.sig (Lives.cont_came t.life) (Restarts.resume Delivered t w) else Restarts.inject t i.sig (Restarts.resume Suppressed t w))
     own true e = after_still w _ _ (changes Delivered TraceeStops.restarted t w) (acts t i.sig _ _ _)
     own false e = cc
 
-leaves : (t : Thread) (w : Work) → Bound (cost 0 1 0 1) w (Requests.leave_tracer t w)
+leaves : (t : Thread) (w : Work) → Bound (cost 0 1 0 1) w (Tracers.leave_tracer t w)
 leaves t w =
     branch w (Lives.is_dead t.life) _ _
     (branch w (Threads.is_leader t) _ _ (less (passes_on t t.report w) refl) (less (removes_thread t w) refl))
-    (less (then_still w _ _ (keeps_held t (Lives.held t.life) w) (alters _ (Requests.restart (Requests.held_signal (Lives.held t.life)) t w))) refl)
+    (less (then_still w _ _ (keeps_held t (Lives.held t.life) w) (alters _ (Restarts.restart (Tracers.held_signal (Lives.held t.life)) t w))) refl)
 
-loses : (a id : ℕ) (w : Work) → Bound (cost 0 1 0 1) w (Moves.at id (Requests.lose_tracer a) w)
-loses a id w = ats id (Requests.lose_tracer a) w (λ t. branch w (Threads.is_tracee_of a t) _ w (leaves t w) (none w))
+loses : (a id : ℕ) (w : Work) → Bound (cost 0 1 0 1) w (Moves.at id (Tracers.lose_tracer a) w)
+loses a id w = ats id (Tracers.lose_tracer a) w (λ t. branch w (Threads.is_tracee_of a t) _ w (leaves t w) (none w))
 
-exit_kills : (id : ℕ) (w : Work) → Bound (cost 1 0 0 1) w (Moves.at id Requests.exit_kill w)
-exit_kills id w = ats id Requests.exit_kill w (λ t. chain w (Moves.accept_as Delivered w) _ (accepts_as Delivered w) (kills t.group (Moves.accept_as Delivered w)))
+exit_kills : (id : ℕ) (w : Work) → Bound (cost 1 0 0 1) w (Moves.at id Tracers.exit_kill w)
+exit_kills id w = ats id Tracers.exit_kill w (λ t. chain w (Moves.accept_as Delivered w) _ (accepts_as Delivered w) (kills t.group (Moves.accept_as Delivered w)))
 
 -- a tracer has at most as many tracees as there are threads
-count_tracees : (T : Table) (a : ℕ) → length (Requests.ids (Requests.tracees T a)) ≤ length T.threads
-count_tracees T a = omega (arith, length-map (Requests.tracees T a) (λ (t : Thread). t.id), filter-le-length (Threads.is_tracee_of a) T.threads)
+count_tracees : (T : Table) (a : ℕ) → length (Tracers.ids (Tracers.tracees T a)) ≤ length T.threads
+count_tracees T a = omega (arith, length-map (Tracers.tracees T a) (λ (t : Thread). t.id), filter-le-length (Threads.is_tracee_of a) T.threads)
 
 -- and no more to kill when it ends
-count_to_kill : (T : Table) (a : ℕ) → length (Requests.ids (Requests.to_kill T a)) ≤ length T.threads
-count_to_kill T a = omega (arith, length-map (Requests.to_kill T a) (λ (t : Thread). t.id), filter-le-length (λ (t : Thread). (Threads.options_of t.trace).exitkill && not (Lives.is_dead t.life)) (Requests.tracees T a), filter-le-length (Threads.is_tracee_of a) T.threads)
+count_to_kill : (T : Table) (a : ℕ) → length (Tracers.ids (Tracers.to_kill T a)) ≤ length T.threads
+count_to_kill T a = omega (arith, length-map (Tracers.to_kill T a) (λ (t : Thread). t.id), filter-le-length (λ (t : Thread). (Threads.options_of t.trace).exitkill && not (Lives.is_dead t.life)) (Tracers.tracees T a), filter-le-length (Threads.is_tracee_of a) T.threads)
 
-tracer_exits : (a : ℕ) (w : Work) → Bound (cost (length w.table.threads) (length w.table.threads) 0 (length w.table.threads + length w.table.threads)) w (Requests.tracer_exit a w)
+tracer_exits : (a : ℕ) (w : Work) → Bound (cost (length w.table.threads) (length w.table.threads) 0 (length w.table.threads + length w.table.threads)) w (Tracers.tracer_exit a w)
 tracer_exits a w =
-    let killed = Requests.ids (Requests.to_kill w.table a) in
-    let lost = Requests.ids (Requests.tracees w.table a) in
+    let killed = Tracers.ids (Tracers.to_kill w.table a) in
+    let lost = Tracers.ids (Tracers.tracees w.table a) in
     within (record { accepted = omega (arith, count_to_kill w.table a); raised = omega (arith, count_tracees w.table a); added = omega arith; begun = omega (arith, count_to_kill w.table a, count_tracees w.table a); passes = λ e. refl })
-    (chain w _ _ (each (λ id. Moves.at id Requests.exit_kill) exit_kills killed w) (each (λ id. Moves.at id (Requests.lose_tracer a)) (loses a) lost _))
+    (chain w _ _ (each (λ id. Moves.at id Tracers.exit_kill) exit_kills killed w) (each (λ id. Moves.at id (Tracers.lose_tracer a)) (loses a) lost _))
 
 -- Clone and exec
 
-clones : (t : Thread) (id : ℕ) (w : Work) → Bound (cost 1 1 1 0) w (Execs.clone t id w)
+clones : (t : Thread) (id : ℕ) (w : Work) → Bound (cost 1 1 1 0) w (Clones.clone t id w)
 clones t id w =
     chain w _ _ (spawns t.id id _ w) (branch _ _ _ _ (chain _ _ _ (enters t.id _ _) (branch _ _ _ _ (enqueues 19 _ (target.Thread id) _) (none _))) (none _))
 
@@ -288,7 +292,7 @@ consumes t w =
     (branch w (Threads.is_leader t) _ _ (passes_on t t.report w) (less (removes_thread t w) refl))
     (less (alters _ w) refl)
 
-starter_takings : (o : Option Thread) (g : Option Group) (w : Work) → Bound nothing w (Waits.starter_takes o g w)
+starter_takings : (o : Option Thread) (g : Option Group) (w : Work) → Bound nothing w (StarterWaits.starter_takes o g w)
 starter_takings None None w = none w
 starter_takings None (Some g) w = regroups _ w
 starter_takings (Some t) g w = removes_thread t w
@@ -314,17 +318,17 @@ does_bound T a (event.TakeAny g) c = less (ats (Steps.number c.thread) (Takes.ta
 does_bound T a (event.Halt id) c = less (ats id Stops.halt (Moves.begin T) (λ t. halts t (Moves.begin T))) refl
 does_bound T a (event.Trap id) c = less (ats id Stops.trap (Moves.begin T) (λ t. traps t _ (Moves.begin T))) refl
 does_bound T a (event.Die id) c = less (ats id (λ t. Ends.die t t.life) (Moves.begin T) (λ t. dies t t.life (Moves.begin T))) refl
-does_bound T a (event.CloneThread id) c = less (ats id (λ t. Execs.clone t (Steps.number c.new_id)) (Moves.begin T) (λ t. clones t (Steps.number c.new_id) (Moves.begin T))) refl
+does_bound T a (event.CloneThread id) c = less (ats id (λ t. Clones.clone t (Steps.number c.new_id)) (Moves.begin T) (λ t. clones t (Steps.number c.new_id) (Moves.begin T))) refl
 does_bound T a (event.Exec id) c = less (ats id Execs.exec (Moves.begin T) (λ t. execs t (Moves.begin T))) refl
 does_bound T a (event.Finish id) c = less (ats id Execs.finish (Moves.begin T) (λ t. finishes t (Moves.begin T))) refl
 does_bound T a (event.Exit id code) c = less (ats id (λ t. Ends.exit t code) (Moves.begin T) (λ t. exits t code (Moves.begin T))) refl
 does_bound T a (event.ExitGroup id code) c = less (ats id (Ends.exit_group code) (Moves.begin T) (λ t. deaths t.group _ false (Moves.begin T))) refl
-does_bound T a (event.Attach id) c = less (ats id (Requests.attach a) (Moves.begin T) (λ t. attaches a t (Moves.begin T))) refl
-does_bound T a (event.Seize id o) c = less (ats id (Requests.seize a o) (Moves.begin T) (λ t. seizes a o t (Moves.begin T))) refl
+does_bound T a (event.Attach id) c = less (ats id (Tracing.attach a) (Moves.begin T) (λ t. attaches a t (Moves.begin T))) refl
+does_bound T a (event.Seize id o) c = less (ats id (Tracing.seize a o) (Moves.begin T) (λ t. seizes a o t (Moves.begin T))) refl
 does_bound T a (event.Interrupt id) c = less (alters _ (Moves.begin T)) refl
-does_bound T a (event.Cont id s) c = less (ats id (Requests.restart s) (Moves.begin T) (λ t. restarts t s _ (Moves.begin T))) refl
-does_bound T a (event.Listen id) c = less (ats id Requests.listen (Moves.begin T) (λ t. changes Flushed TraceeStops.listening t (Moves.begin T))) refl
-does_bound T a (event.Detach id s) c = less (ats id (Requests.detach s) (Moves.begin T) (λ t. then_still (Moves.begin T) (Requests.restart s t (Moves.begin T)) _ (restarts t s _ (Moves.begin T)) (alters _ (Requests.restart s t (Moves.begin T))))) refl
+does_bound T a (event.Cont id s) c = less (ats id (Restarts.restart s) (Moves.begin T) (λ t. restarts t s _ (Moves.begin T))) refl
+does_bound T a (event.Listen id) c = less (ats id Restarts.listen (Moves.begin T) (λ t. changes Flushed TraceeStops.listening t (Moves.begin T))) refl
+does_bound T a (event.Detach id s) c = less (ats id (Restarts.detach s) (Moves.begin T) (λ t. then_still (Moves.begin T) (Restarts.restart s t (Moves.begin T)) _ (restarts t s _ (Moves.begin T)) (alters _ (Restarts.restart s t (Moves.begin T))))) refl
 does_bound T a (event.SetOptions id o) c = less (alters _ (Moves.begin T)) refl
 does_bound T a (event.EventMessage id) c = none (Moves.begin T)
 does_bound T a (event.SignalInfo id) c = none (Moves.begin T)

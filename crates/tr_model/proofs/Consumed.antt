@@ -1,10 +1,11 @@
 -- What a wait consumes stood in the table, was raised for the one that waits, and is consumed once.
 use Rattle.std.proofs.Common.{◌≡◌, ℕ, zero, suc, ◌+◌, ◌<◌, ◌≤◌, List, [], ◌∷◌, ◌++◌, true, false, Some, None, Option, refl, sym, ap, ◌∙◌, map, filter, Bool, not, ◌&&◌, ◌||◌, ◌==◌, ◌⊎◌, inl, inr, if◌then◌else◌, is_some, arith, cond, true≢false, append-nil, append_assoc, subst}
 use Rattle.std.proofs.lemmas.Bool.{eqb-true, and_parts, and_from, cases_eq, ne_eqb, eq-eqb}
+use Rattle.std.proofs.lemmas.Option.{none-some, same_Some}
 use Rattle.tr_tracee.specs.declared.thread.Report.{Report}
 use Rattle.tr_tracee.specs.declared.thread.Thread.{Thread}
 use Rattle.tr_tracee.specs.declared.thread.Trace.{Trace}
-use Rattle.tr_model.specs.declared.events.Choice.{Choice}
+use Rattle.tr_model.specs.Choices.{Choice}
 use Rattle.tr_model.specs.declared.events.Event.{Event}
 use Rattle.tr_model.specs.declared.events.Event.TheVariants as event
 use Rattle.tr_model.specs.declared.events.Entry.{Entry}
@@ -27,12 +28,13 @@ use Rattle.tr_model.specs.Journals
 use Rattle.tr_model.specs.Laws
 use Rattle.tr_tracee.specs.Lives
 use Rattle.tr_model.specs.Moves
-use Rattle.tr_model.specs.Requests
+use Rattle.tr_model.specs.Tracers
 use Rattle.tr_model.specs.Steps
 use Rattle.tr_model.specs.Tables
 use Rattle.tr_tracee.specs.Threads
 use Rattle.tr_tracee.specs.Ends as TraceeEnds
 use Rattle.tr_tracee.specs.Stops as TraceeStops
+use Rattle.tr_model.specs.StarterWaits
 use Rattle.tr_model.specs.Waits
 use Rattle.tr_model.proofs.Reports.{one, is_report, reports, notes, upto, RaisedFor, Owned, OwnedNote, Reported, less, calm_less, no_report, notes_less, map-reported, regroup-reported, moves-reported}
 
@@ -40,19 +42,13 @@ abbrev pub Member : Thread → List Thread → Type 0
 Member t [] = ⊥
 Member t (x ∷ xs) = (x ≡ t) ⊎ Member t xs
 
-thread_same : (x t : Thread) → Some x ≡ Some t → x ≡ t
-thread_same x t e = cc
-
-no_thread : (t : Thread) → None ≡ Some t → ⊥
-no_thread t e = cc
-
 pub found_in : (r : ℕ) (t : Thread) (ts : List Thread) → Waits.with_report ts r ≡ Some t → Member t ts × (Waits.has_report r t.report ≡ true)
-found_in r t [] e = absurd (no_thread t e)
+found_in r t [] e = absurd (none-some t e)
 found_in r t (x ∷ ts) e = go (Waits.has_report r x.report) refl e (found_in r t ts)
   where
     go : (b : Bool) → Waits.has_report r x.report ≡ b → (if b then Some x else Waits.with_report ts r) ≡ Some t → (Waits.with_report ts r ≡ Some t → Member t ts × (Waits.has_report r t.report ≡ true))
         → ((x ≡ t) ⊎ Member t ts) × (Waits.has_report r t.report ≡ true)
-    go true h q ih = let s = thread_same x t q in (inl s, ap (λ (y : Thread). Waits.has_report r y.report) (sym s) ∙ h)
+    go true h q ih = let s = same_Some x t q in (inl s, ap (λ (y : Thread). Waits.has_report r y.report) (sym s) ∙ h)
     go false h q ih = (inr (ih q).0, (ih q).1)
 
 pub member_filter : (p : Thread → Bool) (t : Thread) (ts : List Thread) → Member t (filter p ts) → Member t ts × (p t ≡ true)
@@ -145,23 +141,17 @@ module _ (before : List Raise) (taken : List ℕ) (r : ℕ) (t : Thread) (w : Wo
 
 -- a note
 
-group_same : (x g : Group) → Some x ≡ Some g → x ≡ g
-group_same x g e = cc
-
-no_group : (g : Group) → None ≡ Some g → ⊥
-no_group g e = cc
-
 abbrev MemberGroup : Group → List Group → Type 0
 MemberGroup g [] = ⊥
 MemberGroup g (x ∷ xs) = (x ≡ g) ⊎ MemberGroup g xs
 
-found_note : (r : ℕ) (g : Group) (gs : List Group) → Waits.with_note gs r ≡ Some g → MemberGroup g gs × (Waits.has_report r g.note ≡ true)
-found_note r g [] e = absurd (no_group g e)
+pub found_note : (r : ℕ) (g : Group) (gs : List Group) → StarterWaits.with_note gs r ≡ Some g → MemberGroup g gs × (Waits.has_report r g.note ≡ true)
+found_note r g [] e = absurd (none-some g e)
 found_note r g (x ∷ gs) e = go (Waits.has_report r x.note) refl e (found_note r g gs)
   where
-    go : (b : Bool) → Waits.has_report r x.note ≡ b → (if b then Some x else Waits.with_note gs r) ≡ Some g → (Waits.with_note gs r ≡ Some g → MemberGroup g gs × (Waits.has_report r g.note ≡ true))
+    go : (b : Bool) → Waits.has_report r x.note ≡ b → (if b then Some x else StarterWaits.with_note gs r) ≡ Some g → (StarterWaits.with_note gs r ≡ Some g → MemberGroup g gs × (Waits.has_report r g.note ≡ true))
         → ((x ≡ g) ⊎ MemberGroup g gs) × (Waits.has_report r g.note ≡ true)
-    go true h q ih = let e = group_same x g q in (inl e, ap (λ (y : Group). Waits.has_report r y.note) (sym e) ∙ h)
+    go true h q ih = let e = same_Some x g q in (inl e, ap (λ (y : Group). Waits.has_report r y.note) (sym e) ∙ h)
     go false h q ih = (inr (ih q).0, (ih q).1)
 
 group_filter : (p : Group → Bool) (g : Group) (gs : List Group) → MemberGroup g (filter p gs) → MemberGroup g gs
@@ -183,17 +173,17 @@ strict_notes r f g c n [] h = absurd h
 strict_notes r f g c n (x ∷ gs) (inl e) = omega (arith, notes_less r f c gs, ap (λ (y : Group). is_report r y.note) e, ap (λ (y : Group). is_report r (f y).note) e, ap (is_report r) n)
 strict_notes r f g c n (x ∷ gs) (inr h) = omega (arith, less r x.note (f x).note (c x).note, strict_notes r f g c n gs h)
 
-note_cleared : (before : List Raise) (taken : List ℕ) (r : ℕ) (g : Group) (w : Work) → Reported before taken w → MemberGroup g w.table.groups → Waits.has_report r g.note ≡ true → Reported before (taken ++ r ∷ []) (Waits.consume_note (Some g) w)
+note_cleared : (before : List Raise) (taken : List ℕ) (r : ℕ) (g : Group) (w : Work) → Reported before taken w → MemberGroup g w.table.groups → Waits.has_report r g.note ≡ true → Reported before (taken ++ r ∷ []) (StarterWaits.consume_note (Some g) w)
 note_cleared before taken r g w p m h =
-    let c = calm_group g.tgid Waits.no_note (without_note _ (λ x. refl) (λ x. refl)) in
-    let q = regroup-reported before taken (Moves.only_group g.tgid Waits.no_note) c w p in
+    let c = calm_group g.tgid StarterWaits.no_note (without_note _ (λ x. refl) (λ x. refl)) in
+    let q = regroup-reported before taken (Moves.only_group g.tgid StarterWaits.no_note) c w p in
     record {
-      count = λ k. omega (arith, p.count k, strict_notes k (Moves.only_group g.tgid Waits.no_note) g c (none_here (g.tgid == g.tgid) (eq-eqb g.tgid g.tgid refl)) w.table.groups m, it_has r k g.note h, occurs-last r k taken);
+      count = λ k. omega (arith, p.count k, strict_notes k (Moves.only_group g.tgid StarterWaits.no_note) g c (none_here (g.tgid == g.tgid) (eq-eqb g.tgid g.tgid refl)) w.table.groups m, it_has r k g.note h, occurs-last r k taken);
       threads = q.threads;
       groups = q.groups;
     }
   where
-    none_here : (b : Bool) → b ≡ true → (if b then Waits.no_note g else g).note ≡ None
+    none_here : (b : Bool) → b ≡ true → (if b then StarterWaits.no_note g else g).note ≡ None
     none_here true e = refl
     none_here false e = absurd (true≢false (sym e))
 
@@ -209,45 +199,45 @@ by_wait before taken a which r w p h = go (some_found _ h)
     go : ((t : Thread) × (Waits.ready_thread w.table a which r ≡ Some t)) → Reported before (taken ++ r ∷ []) (Moves.on_thread (Waits.ready_thread w.table a which r) Waits.consume w)
     go x =
         let f = found_in r x.0 _ x.1 in
-        let m = (member_filter _ x.0 w.table.threads (member_filter _ x.0 (Requests.tracees w.table a) f.0).0).0 in
+        let m = (member_filter _ x.0 w.table.threads (member_filter _ x.0 (Tracers.tracees w.table a) f.0).0).0 in
         subst (λ o. Reported before (taken ++ r ∷ []) (Moves.on_thread o Waits.consume w)) (sym x.1) (consumed-reported before taken r x.0 w p m f.1)
 
 in_table : (id : ℕ) (t : Thread) (ts : List Thread) → Tables.thread_in ts id ≡ Some t → Member t ts
-in_table id t [] e = absurd (no_thread t e)
+in_table id t [] e = absurd (none-some t e)
 in_table id t (x ∷ ts) e = go (x.id == id) e (in_table id t ts)
   where
     go : (b : Bool) → (if b then Some x else Tables.thread_in ts id) ≡ Some t → (Tables.thread_in ts id ≡ Some t → Member t ts) → (x ≡ t) ⊎ Member t ts
-    go true q ih = inl (thread_same x t q)
+    go true q ih = inl (same_Some x t q)
     go false q ih = inr (ih q)
 
 -- a dead leader that has the report
-record HasDeath (r : ℕ) (t : Thread) (ts : List Thread) : Type 0 where
+pub record HasDeath (r : ℕ) (t : Thread) (ts : List Thread) : Type 0 where
   there : Member t ts
   dead : Lives.is_dead t.life ≡ true
   untraced : not (Threads.is_traced t) ≡ true
-  report : Waits.has_report r t.report ≡ true
+  pub report : Waits.has_report r t.report ≡ true
 
-death_found : (T : Table) (r : ℕ) (t : Thread) (gs : List Group) → Waits.with_death T gs r ≡ Some t → HasDeath r t T.threads
-death_found T r t [] e = absurd (no_thread t e)
+pub death_found : (T : Table) (r : ℕ) (t : Thread) (gs : List Group) → StarterWaits.with_death T gs r ≡ Some t → HasDeath r t T.threads
+death_found T r t [] e = absurd (none-some t e)
 death_found T r t (g ∷ gs) e = go (Tables.thread_of T g.tgid) refl e (death_found T r t gs)
   where
-    by_thread : (x : Thread) → Tables.thread_of T g.tgid ≡ Some x → (b : Bool) → Waits.has_death r (Some x) ≡ b → (if b then Some x else Waits.with_death T gs r) ≡ Some t → (Waits.with_death T gs r ≡ Some t → HasDeath r t T.threads) → HasDeath r t T.threads
+    by_thread : (x : Thread) → Tables.thread_of T g.tgid ≡ Some x → (b : Bool) → StarterWaits.has_death r (Some x) ≡ b → (if b then Some x else StarterWaits.with_death T gs r) ≡ Some t → (StarterWaits.with_death T gs r ≡ Some t → HasDeath r t T.threads) → HasDeath r t T.threads
     by_thread x f true h q ih =
-        let s = thread_same x t q in
+        let s = same_Some x t q in
         let p = and_parts _ _ h in
         let u = and_parts _ _ p.1 in
         subst (λ y. HasDeath r y T.threads) s (record { there = in_table g.tgid x T.threads f; dead = p.0; untraced = u.0; report = u.1 })
     by_thread x f false h q ih = ih q
 
-    go : (o : Option Thread) → Tables.thread_of T g.tgid ≡ o → (if Waits.has_death r o then o else Waits.with_death T gs r) ≡ Some t → (Waits.with_death T gs r ≡ Some t → HasDeath r t T.threads) → HasDeath r t T.threads
+    go : (o : Option Thread) → Tables.thread_of T g.tgid ≡ o → (if StarterWaits.has_death r o then o else StarterWaits.with_death T gs r) ≡ Some t → (StarterWaits.with_death T gs r ≡ Some t → HasDeath r t T.threads) → HasDeath r t T.threads
     go None f q ih = ih q
-    go (Some x) f q ih = by_thread x f (Waits.has_death r (Some x)) refl q ih
+    go (Some x) f q ih = by_thread x f (StarterWaits.has_death r (Some x)) refl q ih
 
-by_starter : (before : List Raise) (taken : List ℕ) (which : Which) (flags : WaitFlags) (r : ℕ) (w : Work) → Reported before taken w → (is_some (Waits.ready_death w.table which r) || is_some (Waits.ready_note w.table which flags r)) ≡ true
-    → Reported before (taken ++ r ∷ []) (Waits.starter_takes (Waits.ready_death w.table which r) (Waits.ready_note w.table which flags r) w)
-by_starter before taken which flags r w p h = go (Waits.ready_death w.table which r) (Waits.ready_note w.table which flags r) refl refl h
+by_starter : (before : List Raise) (taken : List ℕ) (which : Which) (flags : WaitFlags) (r : ℕ) (w : Work) → Reported before taken w → (is_some (StarterWaits.ready_death w.table which r) || is_some (StarterWaits.ready_note w.table which flags r)) ≡ true
+    → Reported before (taken ++ r ∷ []) (StarterWaits.starter_takes (StarterWaits.ready_death w.table which r) (StarterWaits.ready_note w.table which flags r) w)
+by_starter before taken which flags r w p h = go (StarterWaits.ready_death w.table which r) (StarterWaits.ready_note w.table which flags r) refl refl h
   where
-    go : (o : Option Thread) (n : Option Group) → Waits.ready_death w.table which r ≡ o → Waits.ready_note w.table which flags r ≡ n → (is_some o || is_some n) ≡ true → Reported before (taken ++ r ∷ []) (Waits.starter_takes o n w)
+    go : (o : Option Thread) (n : Option Group) → StarterWaits.ready_death w.table which r ≡ o → StarterWaits.ready_note w.table which flags r ≡ n → (is_some o || is_some n) ≡ true → Reported before (taken ++ r ∷ []) (StarterWaits.starter_takes o n w)
     go (Some t) n e f q =
         let x = death_found w.table r t _ e in
         taken_off before taken r t w p x.there x.report x.dead
@@ -344,12 +334,12 @@ event_raised raised taken T a (event.Wait which) c s h r i = go (some_found _ h.
     go x (inr n) = absurd n
     go x (inl e) =
         let f = found_in h.0 x.0 _ x.1 in
-        let m = member_filter _ x.0 T.threads (member_filter _ x.0 (Requests.tracees T a) f.0).0 in
+        let m = member_filter _ x.0 T.threads (member_filter _ x.0 (Tracers.tracees T a) f.0).0 in
         let w = owned_number raised h.0 x.0.report (Threads.tracer_of x.0.trace) (each_member (Owned raised) x.0 T.threads s.threads m.0) f.1 in
         subst (λ k. WasRaised k (Some a) raised) e (subst (λ whom. WasRaised h.0 whom raised) (tracer_is a x.0.trace m.1) w)
-event_raised raised taken T a (event.StarterWait which flags) c s h r i = go (Waits.ready_death T which h.0) (Waits.ready_note T which flags h.0) refl refl h.2 (subst (λ d. IsIn r (Journals.chosen d.report)) h.1 i)
+event_raised raised taken T a (event.StarterWait which flags) c s h r i = go (StarterWaits.ready_death T which h.0) (StarterWaits.ready_note T which flags h.0) refl refl h.2 (subst (λ d. IsIn r (Journals.chosen d.report)) h.1 i)
   where
-    go : (o : Option Thread) (n : Option Group) → Waits.ready_death T which h.0 ≡ o → Waits.ready_note T which flags h.0 ≡ n → (is_some o || is_some n) ≡ true → IsIn r (h.0 ∷ []) → WasRaised r None raised
+    go : (o : Option Thread) (n : Option Group) → StarterWaits.ready_death T which h.0 ≡ o → StarterWaits.ready_note T which flags h.0 ≡ n → (is_some o || is_some n) ≡ true → IsIn r (h.0 ∷ []) → WasRaised r None raised
     go o n e f q (inr z) = absurd z
     go (Some t) n e f q (inl y) =
         let x = death_found T h.0 t _ e in

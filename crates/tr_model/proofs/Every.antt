@@ -1,15 +1,10 @@
 -- What holds of each thread, and what the moves on lists make of it.
 use Rattle.std.proofs.Common.{◌≡◌, ℕ, List, [], ◌∷◌, ◌++◌, true, false, Some, None, sym, map, filter, Bool, ◌==◌, ◌⊎◌, inl, inr, if◌then◌else◌, cond, subst}
+use Rattle.std.proofs.lemmas.Option.{none-some, same_Some}
 use Rattle.tr_tracee.specs.declared.thread.Thread.{Thread}
 use Rattle.tr_model.specs.Journals.{Each, IsIn}
 use Rattle.tr_model.specs.Moves
 use Rattle.tr_model.specs.Tables
-
-some_same : (x t : Thread) → Some x ≡ Some t → x ≡ t
-some_same x t e = cc
-
-none_some : {A : Type 0} (t : A) → None ≡ Some t → ⊥
-none_some t e = cc
 
 module _ (Q : Thread → Type 0) where
   pub each_map : (Q' : Thread → Type 0) (f : Thread → Thread) → ((t : Thread) → Q t → Q' (f t)) → (ts : List Thread) → Each Q ts → Each Q' (map f ts)
@@ -33,11 +28,11 @@ module _ (Q : Thread → Type 0) where
       go false r = r
 
   pub each_found : (id : ℕ) (t : Thread) (ts : List Thread) → Tables.thread_in ts id ≡ Some t → Each Q ts → Q t
-  each_found id t [] e h = absurd (none_some t e)
+  each_found id t [] e h = absurd (none-some t e)
   each_found id t (x ∷ ts) e h = go (x.id == id) e (λ r. each_found id t ts r h.1)
     where
       go : (b : Bool) → (if b then Some x else Tables.thread_in ts id) ≡ Some t → (Tables.thread_in ts id ≡ Some t → Q t) → Q t
-      go true r ih = subst Q (some_same x t r) h.0
+      go true r ih = subst Q (same_Some x t r) h.0
       go false r ih = ih r
 
   pub each_changed : (id : ℕ) (f : Thread → Thread) (t : Thread) → Q (f t) → (ts : List Thread) → Tables.thread_in ts id ≡ Some t → Each Q ts → Each Q (Moves.changed id f ts)
@@ -45,7 +40,7 @@ module _ (Q : Thread → Type 0) where
   each_changed id f t q (x ∷ ts) e h = go (x.id == id) e (λ r. each_changed id f t q ts r h.1)
     where
       go : (b : Bool) → (if b then Some x else Tables.thread_in ts id) ≡ Some t → (Tables.thread_in ts id ≡ Some t → Each Q (Moves.changed id f ts)) → Each Q (if b then f x ∷ ts else x ∷ Moves.changed id f ts)
-      go true r ih = (subst (λ y. Q (f y)) (sym (some_same x t r)) q, h.1)
+      go true r ih = (subst (λ y. Q (f y)) (sym (same_Some x t r)) q, h.1)
       go false r ih = (h.0, ih r)
 
   pub each_dropped : (id : ℕ) (ts : List Thread) → Each Q ts → Each Q (Moves.dropped id ts)

@@ -10,6 +10,7 @@ use Rattle.tr_model.specs.Laws.{HasFreeId}
 use Rattle.tr_model.specs.Preferred.{least_new, new_id, or_from_2}
 use Rattle.tr_model.specs.Steps.{is_new}
 use Rattle.tr_model.specs.Tables.{Table, group_in, group_of, thread_in, thread_of}
+use Rattle.tr_model.proofs.Among.{occurs-append}
 
 -- What is found is new
 
@@ -43,10 +44,6 @@ within_few : (first k : ℕ) (xs : List ℕ) → within first k xs ≤ length xs
 within_few first k [] = omega arith
 within_few first k (x ∷ xs) = let h = at_most_one (nat_le first x && nat_le (x + 1) (first + k)) in omega (arith, h, within_few first k xs)
 
-occurs_append : (n : ℕ) (xs ys : List ℕ) → occurs n (xs ++ ys) ≡ occurs n xs + occurs n ys
-occurs_append n [] ys = omega arith
-occurs_append n (x ∷ xs) ys = omega (arith, occurs_append n xs ys)
-
 abbrev tgids : List Group → List ℕ
 tgids [] = []
 tgids (g ∷ gs) = g.tgid ∷ tgids gs
@@ -79,8 +76,8 @@ counted : (T : Table) (id : ℕ) → 2 ≤ id → id ≤ 4194303 → is_new T id
 counted T id h k e = go (is_some (thread_of T id)) refl (is_some (group_of T id)) refl
   where
     go : (b : Bool) → is_some (thread_of T id) ≡ b → (c : Bool) → is_some (group_of T id) ≡ c → 1 ≤ occurs id (taken_ids T)
-    go true p c q = omega (arith, thread_counted T.threads id p, occurs_append id (ids_of T.threads) (tgids T.groups))
-    go false p true q = omega (arith, group_counted T.groups id q, occurs_append id (ids_of T.threads) (tgids T.groups))
+    go true p c q = omega (arith, thread_counted T.threads id p, occurs-append id (ids_of T.threads) (tgids T.groups))
+    go false p true q = omega (arith, group_counted T.groups id q, occurs-append id (ids_of T.threads) (tgids T.groups))
     go false p false q = absurd (true≢false (rw (le-leb 2 id h, le-leb id 4194303 k, p, q) at e))
 
 all_taken : (T : Table) (k first : ℕ) → 2 ≤ first → first + k ≤ 4194304 → least_new T k first ≡ None → k ≤ within first k (taken_ids T)

@@ -11,7 +11,6 @@ use Rattle.tr_model.proofs.Calm.{Calm, calm_throughout, calm_broken, calm_broken
 use Rattle.tr_model.proofs.Kept.{Kept, any, any_of, itself}
 use Rattle.tr_model.proofs.OneFate.{one}
 use Rattle.tr_model.proofs.Measures.{total, total-append, total_changed, total_dropped, total_same, total_filter}
-use Rattle.tr_model.specs.declared.raises.Raise.{Raise}
 use Rattle.tr_model.specs.Moves.{Work}
 use Rattle.tr_model.specs.Tables.{Table}
 use Rattle.tr_tracee.specs.Lives.{held}
@@ -19,7 +18,7 @@ use Rattle.tr_model.specs.Deaths
 use Rattle.tr_model.specs.Execs
 use Rattle.tr_tracee.specs.Lives
 use Rattle.tr_model.specs.Moves
-use Rattle.tr_model.specs.Requests
+use Rattle.tr_model.specs.Restarts
 use Rattle.tr_model.specs.Tables
 use Rattle.tr_tracee.specs.Threads
 use Rattle.tr_tracee.specs.Ends as TraceeEnds
@@ -116,8 +115,8 @@ death-distinct g s kill w d =
 pub moves-distinct : Kept any any_of Distinct
 moves-distinct = record {
   alter = λ f h w d. map-distinct f (λ t. (h t).calm) w d;
-  resume = λ fate live t r w e d. changed-distinct TraceeStops.restarted t refl w (Requests.resume fate t w) refl e d;
-  listen = λ t r w e d. changed-distinct TraceeStops.listening t refl w (Requests.listen t w) refl e d;
+  resume = λ fate live t r w e d. changed-distinct TraceeStops.restarted t refl w (Restarts.resume fate t w) refl e d;
+  listen = λ t r w e d. changed-distinct TraceeStops.listening t refl w (Restarts.listen t w) refl e d;
   break_others = λ g id x w d. as_it_was (Moves.alter (Threads.at_group g (TraceeEnds.begun_to_leave_by_exec id (ending.Exited 0))) w) (Execs.break_others g id w) refl (map-distinct (Threads.at_group g (TraceeEnds.begun_to_leave_by_exec id (ending.Exited 0))) (calm_throughout g _ (calm_broken_by_exec id (ending.Exited 0))) w d);
   begin_death = death-distinct;
   kill_group = λ g w d. death-distinct g (ending.Killed 9) true (Moves.tell_killed g w) (as_it_was w (Moves.tell_killed g w) refl d);

@@ -1,6 +1,7 @@
 -- What every small move keeps, every step keeps.
 use Rattle.std.proofs.Common.{◌≡◌, ℕ, List, [], ◌∷◌, true, false, Some, None, Option, refl, map, Bool, not, ◌==◌, sym, true≢false, ap, ◌∙◌, if◌then◌else◌, is_some}
 use Rattle.std.proofs.lemmas.Bool.{eqb-true, and_parts}
+use Rattle.std.proofs.lemmas.Option.{none-some, same_Some}
 use Rattle.tr_group.specs.declared.stops.Action.{Action}
 use Rattle.tr_pending.specs.declared.instance.Info.{Info}
 use Rattle.tr_pending.specs.declared.instance.Instance.{Instance}
@@ -22,7 +23,7 @@ use Rattle.tr_model.specs.declared.replies.Did.{Did}
 use Rattle.tr_model.specs.declared.replies.Did.TheVariants as did
 use Rattle.tr_model.specs.declared.fates.Fate.{Fate}
 use Rattle.tr_model.specs.declared.fates.Fate.TheVariants.{Pending, Merged, Delivered, Suppressed, Flushed}
-use Rattle.tr_model.specs.declared.events.Choice.{Choice}
+use Rattle.tr_model.specs.Choices.{Choice}
 use Rattle.tr_model.specs.declared.events.Entry.{Entry}
 use Rattle.tr_model.specs.declared.events.Event.{Event}
 use Rattle.tr_model.specs.declared.events.Event.TheVariants as event
@@ -33,11 +34,14 @@ use Rattle.tr_model.specs.Moves.{Work}
 use Rattle.tr_tracee.specs.Lives.{held}
 use Rattle.tr_model.specs.Deaths
 use Rattle.tr_model.specs.Ends
+use Rattle.tr_model.specs.Clones
 use Rattle.tr_model.specs.Execs
 use Rattle.tr_model.specs.GroupStops
 use Rattle.tr_tracee.specs.Lives
 use Rattle.tr_tracee.specs.Marks
-use Rattle.tr_model.specs.Requests
+use Rattle.tr_model.specs.Restarts
+use Rattle.tr_model.specs.Tracers
+use Rattle.tr_model.specs.Tracing
 use Rattle.tr_model.specs.Sends
 use Rattle.tr_model.specs.Steps
 use Rattle.tr_model.specs.Stops
@@ -46,6 +50,7 @@ use Rattle.tr_model.specs.Takes
 use Rattle.tr_tracee.specs.Threads
 use Rattle.tr_tracee.specs.Ends as TraceeEnds
 use Rattle.tr_tracee.specs.Stops as TraceeStops
+use Rattle.tr_model.specs.StarterWaits
 use Rattle.tr_model.specs.Waits
 use Rattle.tr_wait.specs.Words
 use Rattle.tr_model.specs.Moves
@@ -69,8 +74,8 @@ is_pending _ = false
 -- other threads' stops.
 pub record Kept (R : Leave → Type 0) (X : ℕ → ℕ → Type 0) (P : Work → Type 0) : Type 0 where
   pub alter : (f : Thread → Thread) → ((t : Thread) → Tame t (f t)) → (w : Work) → P w → P (Moves.alter f w)
-  pub resume : (fate : Fate) → is_pending fate ≡ false → (t : Thread) → R (leave t) → (w : Work) → Tables.thread_of w.table t.id ≡ Some t → P w → P (Requests.resume fate t w)
-  pub listen : (t : Thread) → R (leave t) → (w : Work) → Tables.thread_of w.table t.id ≡ Some t → P w → P (Requests.listen t w)
+  pub resume : (fate : Fate) → is_pending fate ≡ false → (t : Thread) → R (leave t) → (w : Work) → Tables.thread_of w.table t.id ≡ Some t → P w → P (Restarts.resume fate t w)
+  pub listen : (t : Thread) → R (leave t) → (w : Work) → Tables.thread_of w.table t.id ≡ Some t → P w → P (Restarts.listen t w)
   pub break_others : (g id : ℕ) → X g id → (w : Work) → P w → P (Execs.break_others g id w)
   pub begin_death : (g : ℕ) (e : End) (kill : Bool) (w : Work) → P w → P (Deaths.begin_death g e kill w)
   pub kill_group : (g : ℕ) (w : Work) → P w → P (Deaths.kill_group g w)
@@ -89,18 +94,12 @@ pub record Kept (R : Leave → Type 0) (X : ℕ → ℕ → Type 0) (P : Work �
 
 -- The thread that an id finds
 
-some_same : (x t : Thread) → Some x ≡ Some t → x ≡ t
-some_same x t e = cc
-
-none_some : {A : Type 0} (t : A) → None ≡ Some t → ⊥
-none_some t e = cc
-
 pub found_id : (ts : List Thread) (id : ℕ) (t : Thread) → Tables.thread_in ts id ≡ Some t → t.id ≡ id
-found_id [] id t e = absurd (none_some t e)
+found_id [] id t e = absurd (none-some t e)
 found_id (x ∷ ts) id t e = go (x.id == id) refl e (found_id ts id t)
   where
     go : (b : Bool) → (x.id == id) ≡ b → (if b then Some x else Tables.thread_in ts id) ≡ Some t → (Tables.thread_in ts id ≡ Some t → t.id ≡ id) → t.id ≡ id
-    go true h e ih = ap (λ (y : Thread). y.id) (sym (some_same x t e)) ∙ eqb-true x.id id h
+    go true h e ih = ap (λ (y : Thread). y.id) (sym (same_Some x t e)) ∙ eqb-true x.id id h
     go false h e ih = ih e
 
 pub itself : (ts : List Thread) (id : ℕ) (t : Thread) → Tables.thread_in ts id ≡ Some t → Tables.thread_in ts t.id ≡ Some t
@@ -250,31 +249,31 @@ module _ (R : Leave → Type 0) (X : ℕ → ℕ → Type 0) (P : Work → Type 
   pub show_stop-kept : (t : Thread) (w : Work) → P w → P (Stops.show_stop t w)
   show_stop-kept t w p = branch _ _ _ (show-kept t w p) p
 
-  pub trace-kept : (a : ℕ) (b : Bool) (o : Options) (t : Thread) (w : Work) → P w → P (Requests.trace a b o t w)
+  pub trace-kept : (a : ℕ) (b : Bool) (o : Options) (t : Thread) (w : Work) → P w → P (Tracing.trace a b o t w)
   trace-kept a b o t w p = only-kept t.id (TraceeStops.traced_by _) (tame_traced_by _) w p
 
-  pub attach-kept : (a : ℕ) (t : Thread) (w : Work) → P w → P (Requests.attach a t w)
+  pub attach-kept : (a : ℕ) (t : Thread) (w : Work) → P w → P (Tracing.attach a t w)
   attach-kept a t w p = show_stop-kept t _ (send-kept 19 _ (target.Thread t.id) _ (trace-kept a false Threads.no_options t w p))
 
-  pub seize-kept : (a : ℕ) (o : Options) (t : Thread) (w : Work) → P w → P (Requests.seize a o t w)
+  pub seize-kept : (a : ℕ) (o : Options) (t : Thread) (w : Work) → P w → P (Tracing.seize a o t w)
   seize-kept a o t w p = show_stop-kept t _ (trace-kept a true o t w p)
 
-  pub inject-kept : (t : Thread) (s : ℕ) (w : Work) → P w → P (Requests.inject t s w)
+  pub inject-kept : (t : Thread) (s : ℕ) (w : Work) → P w → P (Restarts.inject t s w)
   inject-kept t s w p = branch _ _ _ (put-kept s _ (target.Thread t.id) w p) (act_on-kept t s _ _ (k.accept_as Delivered refl w p))
 
-  pub restart_held-kept : (t : Thread) (s : ℕ) (o : Option Instance) → R (leave t) → (w : Work) → Tables.thread_of w.table t.id ≡ Some t → P w → P (Requests.restart_held t s o w)
+  pub restart_held-kept : (t : Thread) (s : ℕ) (o : Option Instance) → R (leave t) → (w : Work) → Tables.thread_of w.table t.id ≡ Some t → P w → P (Restarts.restart_held t s o w)
   restart_held-kept t s None r w e p = k.resume Flushed refl t r w e p
   restart_held-kept t s (Some i) r w e p =
       branch (s == 0) _ _ (k.resume Suppressed refl t r w e p)
       (branch (s == i.sig) _ _ (act_on-kept t s _ _ (k.resume Delivered refl t r w e p)) (inject-kept t s _ (k.resume Suppressed refl t r w e p)))
 
-  pub restart-kept : (s : ℕ) (t : Thread) → R (leave t) → (w : Work) → Tables.thread_of w.table t.id ≡ Some t → P w → P (Requests.restart s t w)
+  pub restart-kept : (s : ℕ) (t : Thread) → R (leave t) → (w : Work) → Tables.thread_of w.table t.id ≡ Some t → P w → P (Restarts.restart s t w)
   restart-kept s t r w e p = restart_held-kept t s _ r w e p
 
-  pub untrace-kept : (t : Thread) (w : Work) → P w → P (Requests.untrace t w)
+  pub untrace-kept : (t : Thread) (w : Work) → P w → P (Restarts.untrace t w)
   untrace-kept t w p = only-kept t.id (TraceeStops.untraced (is_some (Tables.stop_in_effect w.table t.group))) (tame_untraced (is_some (Tables.stop_in_effect w.table t.group))) w p
 
-  pub detach-kept : (s : ℕ) (t : Thread) → R (leave t) → (w : Work) → Tables.thread_of w.table t.id ≡ Some t → P w → P (Requests.detach s t w)
+  pub detach-kept : (s : ℕ) (t : Thread) → R (leave t) → (w : Work) → Tables.thread_of w.table t.id ≡ Some t → P w → P (Restarts.detach s t w)
   detach-kept s t r w e p = untrace-kept t _ (restart-kept s t r w e p)
 
   pub report_leader-kept : (t : Thread) (w : Work) → P w → P (Ends.report_leader t w)
@@ -287,30 +286,30 @@ module _ (R : Leave → Type 0) (X : ℕ → ℕ → Type 0) (P : Work → Type 
   pass_on-kept t None w p = only-kept t.id _ tame_released w p
   pass_on-kept t (Some r) w p = report_leader-kept t _ (only-kept t.id _ tame_released w p)
 
-  pub leave_tracer-kept : (t : Thread) → R (leave t) → (w : Work) → Tables.thread_of w.table t.id ≡ Some t → P w → P (Requests.leave_tracer t w)
+  pub leave_tracer-kept : (t : Thread) → R (leave t) → (w : Work) → Tables.thread_of w.table t.id ≡ Some t → P w → P (Tracers.leave_tracer t w)
   leave_tracer-kept t r w e p =
-      branch (Lives.is_dead t.life) _ _ (branch (Threads.is_leader t) _ _ (pass_on-kept t t.report w p) (remove_thread-kept t w p)) (detach-kept (Requests.held_signal (held t.life)) t r w e p)
+      branch (Lives.is_dead t.life) _ _ (branch (Threads.is_leader t) _ _ (pass_on-kept t t.report w p) (remove_thread-kept t w p)) (detach-kept (Tracers.held_signal (held t.life)) t r w e p)
 
-  pub lose_tracer-kept : (a : ℕ) → ((l : Leave) → l.tracer ≡ Some a → R l) → (t : Thread) (w : Work) → Tables.thread_of w.table t.id ≡ Some t → P w → P (Requests.lose_tracer a t w)
+  pub lose_tracer-kept : (a : ℕ) → ((l : Leave) → l.tracer ≡ Some a → R l) → (t : Thread) (w : Work) → Tables.thread_of w.table t.id ≡ Some t → P w → P (Tracers.lose_tracer a t w)
   lose_tracer-kept a r t w e p = go (Threads.is_tracee_of a t) refl
     where
-      go : (b : Bool) → Threads.is_tracee_of a t ≡ b → P (Moves.when b (Requests.leave_tracer t) w)
+      go : (b : Bool) → Threads.is_tracee_of a t ≡ b → P (Moves.when b (Tracers.leave_tracer t) w)
       go true h = leave_tracer-kept t (r (leave t) (tracer_is a t.trace h)) w e p
       go false h = p
 
-  pub exit_kill-kept : (t : Thread) (w : Work) → P w → P (Requests.exit_kill t w)
+  pub exit_kill-kept : (t : Thread) (w : Work) → P w → P (Tracers.exit_kill t w)
   exit_kill-kept t w p = k.kill_group t.group _ (k.accept_as Delivered refl w p)
 
   pub each_at-kept : (move : Thread → Work → Work) → ((t : Thread) (w : Work) → P w → P (move t w)) → (xs : List ℕ) (w : Work) → P w → P (Moves.each xs (λ id. Moves.at id move) w)
   each_at-kept move h xs w p = each-kept (λ id. Moves.at id move) (λ id. at-kept id move h) xs w p
 
-  each_loses : (a : ℕ) → ((l : Leave) → l.tracer ≡ Some a → R l) → (id : ℕ) (w : Work) → P w → P (Moves.at id (Requests.lose_tracer a) w)
-  each_loses a r id w p = at_found id (Requests.lose_tracer a) w (λ t e h. lose_tracer-kept a r t w e p) p
+  each_loses : (a : ℕ) → ((l : Leave) → l.tracer ≡ Some a → R l) → (id : ℕ) (w : Work) → P w → P (Moves.at id (Tracers.lose_tracer a) w)
+  each_loses a r id w p = at_found id (Tracers.lose_tracer a) w (λ t e h. lose_tracer-kept a r t w e p) p
 
-  pub tracer_exit-kept : (a : ℕ) → ((l : Leave) → l.tracer ≡ Some a → R l) → (w : Work) → P w → P (Requests.tracer_exit a w)
+  pub tracer_exit-kept : (a : ℕ) → ((l : Leave) → l.tracer ≡ Some a → R l) → (w : Work) → P w → P (Tracers.tracer_exit a w)
   tracer_exit-kept a r w p =
-      each-kept (λ id. Moves.at id (Requests.lose_tracer a)) (each_loses a r) (Requests.ids (Requests.tracees w.table a)) _
-      (each_at-kept Requests.exit_kill exit_kill-kept (Requests.ids (Requests.to_kill w.table a)) w p)
+      each-kept (λ id. Moves.at id (Tracers.lose_tracer a)) (each_loses a r) (Tracers.ids (Tracers.tracees w.table a)) _
+      (each_at-kept Tracers.exit_kill exit_kill-kept (Tracers.ids (Tracers.to_kill w.table a)) w p)
 
   pub last_death-kept : (g : ℕ) (w : Work) → P w → P (Ends.last_death g w)
   last_death-kept g w p = at-kept g Ends.report_leader report_leader-kept _ (k.end_waiting Flushed refl (λ q. Tables.same_target (target.Group g) q.target) w p)
@@ -331,10 +330,10 @@ module _ (R : Leave → Type 0) (X : ℕ → ℕ → Type 0) (P : Work → Type 
   pub exit-kept : (t : Thread) (code : ℕ) (w : Work) → P w → P (Ends.exit t code w)
   exit-kept t code w p = let q = only-kept t.id _ tame_unmarked w p in branch _ _ _ (k.enter t.id _ refl _ q) (only-kept t.id (TraceeEnds.leaving _) (tame_leaving _) _ q)
 
-  pub clone_stop-kept : (t : Thread) (id : ℕ) (w : Work) → P w → P (Execs.clone_stop t id w)
+  pub clone_stop-kept : (t : Thread) (id : ℕ) (w : Work) → P w → P (Clones.clone_stop t id w)
   clone_stop-kept t id w p = let q = k.enter t.id (stop.Clone id) refl w p in branch _ _ _ (k.enqueue 19 _ (target.Thread id) _ q) q
 
-  pub clone-kept : (t : Thread) (id : ℕ) (w : Work) → Tables.thread_of w.table id ≡ None → P w → P (Execs.clone t id w)
+  pub clone-kept : (t : Thread) (id : ℕ) (w : Work) → Tables.thread_of w.table id ≡ None → P w → P (Clones.clone t id w)
   clone-kept t id w n p = let q = k.spawn t.id id (is_some (Tables.stop_in_effect w.table t.group)) w n p in branch _ _ _ (clone_stop-kept t id _ q) q
 
   pub trap_new-kept : (t : Thread) (w : Work) → P w → P (Execs.trap_new t w)
@@ -365,11 +364,11 @@ module _ (R : Leave → Type 0) (X : ℕ → ℕ → Type 0) (P : Work → Type 
   pub take_numbered-kept : (n : ℕ) (t : Thread) (w : Work) → P w → P (Takes.take_numbered n t w)
   take_numbered-kept n t w p = on_instance-kept (Takes.with_number n (Takes.choices w.table t)) t w p
 
-  pub consume_note-kept : (o : Option Group) (w : Work) → P w → P (Waits.consume_note o w)
+  pub consume_note-kept : (o : Option Group) (w : Work) → P w → P (StarterWaits.consume_note o w)
   consume_note-kept None w p = p
-  consume_note-kept (Some g) w p = group-kept g.tgid Waits.no_note (without_note _ (λ x. refl) (λ x. refl)) w p
+  consume_note-kept (Some g) w p = group-kept g.tgid StarterWaits.no_note (without_note _ (λ x. refl) (λ x. refl)) w p
 
-  pub starter_takes-kept : (o : Option Thread) (g : Option Group) (w : Work) → P w → P (Waits.starter_takes o g w)
+  pub starter_takes-kept : (o : Option Thread) (g : Option Group) (w : Work) → P w → P (StarterWaits.starter_takes o g w)
   starter_takes-kept None g w p = consume_note-kept g w p
   starter_takes-kept (Some t) g w p = remove_thread-kept t w p
 
@@ -388,7 +387,7 @@ module _ (R : Leave → Type 0) (X : ℕ → ℕ → Type 0) (P : Work → Type 
   does-kept a (event.Halt id) c w r x m p = at-kept id _ halt-kept w p
   does-kept a (event.Trap id) c w r x m p = at-kept id _ trap-kept w p
   does-kept a (event.Die id) c w r x m p = at-kept id _ (λ t. die-kept t t.life) w p
-  does-kept a (event.CloneThread id) c w r x m p = at_found id (λ t. Execs.clone t (Steps.number c.new_id)) w (λ t e h. clone-kept t (Steps.number c.new_id) w m p) p
+  does-kept a (event.CloneThread id) c w r x m p = at_found id (λ t. Clones.clone t (Steps.number c.new_id)) w (λ t e h. clone-kept t (Steps.number c.new_id) w m p) p
   does-kept a (event.Exec id) c w r x m p = at_found id Execs.exec w (λ t e h. exec-kept t (x t h) w p) p
   does-kept a (event.Finish id) c w r x m p = at-kept id _ finish-kept w p
   does-kept a (event.Exit id code) c w r x m p = at-kept id (λ t. Ends.exit t code) (λ t. exit-kept t code) w p
@@ -396,9 +395,9 @@ module _ (R : Leave → Type 0) (X : ℕ → ℕ → Type 0) (P : Work → Type 
   does-kept a (event.Attach id) c w r x m p = at-kept id _ (attach-kept a) w p
   does-kept a (event.Seize id o) c w r x m p = at-kept id _ (seize-kept a o) w p
   does-kept a (event.Interrupt id) c w r x m p = only-kept id _ tame_interrupted w p
-  does-kept a (event.Cont id s) c w r x m p = at_found id (Requests.restart s) w (λ t e h. restart-kept s t (r (leave t) (found_id w.table.threads id t h)) w e p) p
-  does-kept a (event.Listen id) c w r x m p = at_found id Requests.listen w (λ t e h. k.listen t (r (leave t) (found_id w.table.threads id t h)) w e p) p
-  does-kept a (event.Detach id s) c w r x m p = at_found id (Requests.detach s) w (λ t e h. detach-kept s t (r (leave t) (found_id w.table.threads id t h)) w e p) p
+  does-kept a (event.Cont id s) c w r x m p = at_found id (Restarts.restart s) w (λ t e h. restart-kept s t (r (leave t) (found_id w.table.threads id t h)) w e p) p
+  does-kept a (event.Listen id) c w r x m p = at_found id Restarts.listen w (λ t e h. k.listen t (r (leave t) (found_id w.table.threads id t h)) w e p) p
+  does-kept a (event.Detach id s) c w r x m p = at_found id (Restarts.detach s) w (λ t e h. detach-kept s t (r (leave t) (found_id w.table.threads id t h)) w e p) p
   does-kept a (event.SetOptions id o) c w r x m p = only-kept id _ (tame_set_options o) w p
   does-kept a (event.EventMessage id) c w r x m p = p
   does-kept a (event.SignalInfo id) c w r x m p = p

@@ -1,6 +1,7 @@
 -- A measure summed over the threads, and what the moves make of it.
 use Rattle.std.proofs.Common.{◌≡◌, ℕ, ◌+◌, ◌≤◌, List, [], ◌∷◌, ◌++◌, true, false, Some, None, refl, sym, ap, map, filter, Bool, not, ◌&&◌, ◌==◌, if◌then◌else◌, arith, cond, true≢false}
 use Rattle.std.proofs.lemmas.Bool.{and_parts}
+use Rattle.std.proofs.lemmas.Option.{none-some, same_Some}
 use Rattle.tr_tracee.specs.declared.life.Life.{Life}
 use Rattle.tr_tracee.specs.declared.life.Life.TheVariants as life
 use Rattle.tr_tracee.specs.declared.thread.Thread.{Thread}
@@ -9,12 +10,6 @@ use Rattle.tr_tracee.specs.Lives
 use Rattle.tr_model.specs.Moves
 use Rattle.tr_model.specs.Tables
 use Rattle.tr_tracee.specs.Stops as TraceeStops
-
-some_same : (x t : Thread) → Some x ≡ Some t → x ≡ t
-some_same x t e = cc
-
-none_some : {A : Type 0} (t : A) → None ≡ Some t → ⊥
-none_some t e = cc
 
 -- the sum of a measure
 abbrev pub total : (Thread → ℕ) → List Thread → ℕ
@@ -26,23 +21,23 @@ total-append m [] ys = omega arith
 total-append m (x ∷ xs) ys = omega (arith, total-append m xs ys)
 
 pub total_changed : (m : Thread → ℕ) (id : ℕ) (f : Thread → Thread) (t : Thread) (ts : List Thread) → Tables.thread_in ts id ≡ Some t → total m (Moves.changed id f ts) + m t ≡ total m ts + m (f t)
-total_changed m id f t [] e = absurd (none_some t e)
+total_changed m id f t [] e = absurd (none-some t e)
 total_changed m id f t (x ∷ ts) e = go (x.id == id) e (total_changed m id f t ts)
   where
     go : (b : Bool) → (if b then Some x else Tables.thread_in ts id) ≡ Some t
         → (Tables.thread_in ts id ≡ Some t → total m (Moves.changed id f ts) + m t ≡ total m ts + m (f t))
         → total m (if b then f x ∷ ts else x ∷ Moves.changed id f ts) + m t ≡ (m x + total m ts) + m (f t)
-    go true e ih = let xt = some_same x t e in omega (arith, ap m xt, ap (λ (y : Thread). m (f y)) xt)
+    go true e ih = let xt = same_Some x t e in omega (arith, ap m xt, ap (λ (y : Thread). m (f y)) xt)
     go false e ih = omega (arith, ih e)
 
 pub total_dropped : (m : Thread → ℕ) (id : ℕ) (t : Thread) (ts : List Thread) → Tables.thread_in ts id ≡ Some t → total m (Moves.dropped id ts) + m t ≡ total m ts
-total_dropped m id t [] e = absurd (none_some t e)
+total_dropped m id t [] e = absurd (none-some t e)
 total_dropped m id t (x ∷ ts) e = go (x.id == id) e (total_dropped m id t ts)
   where
     go : (b : Bool) → (if b then Some x else Tables.thread_in ts id) ≡ Some t
         → (Tables.thread_in ts id ≡ Some t → total m (Moves.dropped id ts) + m t ≡ total m ts)
         → total m (if b then ts else x ∷ Moves.dropped id ts) + m t ≡ m x + total m ts
-    go true e ih = omega (arith, ap m (some_same x t e))
+    go true e ih = omega (arith, ap m (same_Some x t e))
     go false e ih = omega (arith, ih e)
 
 -- a measure that is the same after f

@@ -1,7 +1,7 @@
 -- A take gives no thread's id to another thread.
 use Rattle.std.proofs.Common.{◌≡◌, ℕ, [], Some, refl}
 use Rattle.std.proofs.lemmas.Option.{none-some}
-use Rattle.tr_model.specs.declared.events.Choice.{Choice}
+use Rattle.tr_model.specs.Choices.{Choice}
 use Rattle.tr_model.specs.declared.events.Event.{Event}
 use Rattle.tr_model.specs.declared.events.Event.TheVariants as event
 use Rattle.tr_model.specs.GroupStops

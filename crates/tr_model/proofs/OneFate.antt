@@ -1,6 +1,7 @@
 -- Each accepted number waits, is held, or was ended: once.
 use Rattle.std.proofs.Common.{◌≡◌, ℕ, zero, suc, ◌+◌, ◌<◌, ◌≤◌, List, [], ◌∷◌, ◌++◌, true, false, Some, None, Option, refl, sym, ap, ◌∙◌, map, flat_map, filter, Bool, not, ◌&&◌, ◌==◌, ◌⊎◌, inl, inr, if◌then◌else◌, arith, cond, true≢false, add-one, append-nil, append_assoc, subst, ⊎_elim}
 use Rattle.std.proofs.lemmas.Bool.{cases_lt, eqb-true, and_parts, cases_eq, ne_eqb, eq-eqb}
+use Rattle.std.proofs.lemmas.Option.{none-some, same_Some}
 use Rattle.tr_pending.specs.declared.instance.Instance.{Instance}
 use Rattle.tr_tracee.specs.declared.life.Life.TheVariants as life
 use Rattle.tr_tracee.specs.declared.life.End.{End}
@@ -31,6 +32,7 @@ use Rattle.tr_model.specs.Tables
 use Rattle.tr_tracee.specs.Threads
 use Rattle.tr_tracee.specs.Ends as TraceeEnds
 use Rattle.tr_tracee.specs.Stops as TraceeStops
+use Rattle.tr_model.proofs.Among.{occurs-append}
 
 -- How often a number waits, is held, was ended; and once, if it was accepted
 
@@ -93,9 +95,6 @@ changes n fate f h (t ∷ ts) = omega (arith, one_change n fate f t (h t), chang
 zero_of : (n : ℕ) (o : Option Instance) → o ≡ None → is_number n o ≡ 0
 zero_of n o e = ap (is_number n) e
 
-none_some : {A : Type 0} (t : A) → None ≡ Some t → ⊥
-none_some t e = cc
-
 in_places : (n : ℕ) (t : Thread) → held t.life ≡ None → (ts : List Thread) → total (holds n) (map (Moves.in_leaders_row t) ts) ≡ total (holds n) ts
 in_places n t h [] = refl
 in_places n t h (x ∷ ts) = go (x.id == t.group && Lives.is_dead x.life) refl (in_places n t h ts)
@@ -118,25 +117,22 @@ ended_waits n fate p (q ∷ qs) = go (p q) (ended_waits n fate p qs)
     go true ih = omega (arith, ih)
     go false ih = omega (arith, ih)
 
-same_instance : (x i : Instance) → Some x ≡ Some i → x ≡ i
-same_instance x i e = cc
-
 pulled : (n m : ℕ) (i : Instance) (qs : List Waiting) → Moves.instance_in qs m ≡ Some i → waits n (Moves.without_instance m qs) + one (i.n == n) ≡ waits n qs
-pulled n m i [] e = absurd (none_some i e)
+pulled n m i [] e = absurd (none-some i e)
 pulled n m i (q ∷ qs) e = go (q.instance.n == m) e (pulled n m i qs)
   where
     go : (b : Bool) → (if b then Some q.instance else Moves.instance_in qs m) ≡ Some i
         → (Moves.instance_in qs m ≡ Some i → waits n (Moves.without_instance m qs) + one (i.n == n) ≡ waits n qs)
         → waits n (if b then qs else q ∷ Moves.without_instance m qs) + one (i.n == n) ≡ one (q.instance.n == n) + waits n qs
-    go true e ih = omega (arith, ap (λ (y : Instance). one (y.n == n)) (same_instance q.instance i e))
+    go true e ih = omega (arith, ap (λ (y : Instance). one (y.n == n)) (same_Some q.instance i e))
     go false e ih = omega (arith, ih e)
 
-number_found : (m : ℕ) (i : Instance) (qs : List Waiting) → Moves.instance_in qs m ≡ Some i → i.n ≡ m
-number_found m i [] e = absurd (none_some i e)
+pub number_found : (m : ℕ) (i : Instance) (qs : List Waiting) → Moves.instance_in qs m ≡ Some i → i.n ≡ m
+number_found m i [] e = absurd (none-some i e)
 number_found m i (q ∷ qs) e = go (q.instance.n == m) refl e (number_found m i qs)
   where
     go : (b : Bool) → (q.instance.n == m) ≡ b → (if b then Some q.instance else Moves.instance_in qs m) ≡ Some i → (Moves.instance_in qs m ≡ Some i → i.n ≡ m) → i.n ≡ m
-    go true h e ih = ap (λ (y : Instance). y.n) (sym (same_instance q.instance i e)) ∙ eqb-true q.instance.n m h
+    go true h e ih = ap (λ (y : Instance). y.n) (sym (same_Some q.instance i e)) ∙ eqb-true q.instance.n m h
     go false h e ih = ih e
 
 born_more : (n a : ℕ) → born n (a + 1) ≡ one (a + 1 == n) + born n a
@@ -290,10 +286,6 @@ replay_sound T U ended (e ∷ es) (x ∷ rs) s r =
     rw (← append_assoc) (replay_sound (Steps.work_of T e).table U (ended ++ (Steps.work_of T e).ended) es rs (entry_sound T ended e r.1.choice s) made)
 
 -- in the words of the law
-
-pub occurs-append : (n : ℕ) (xs ys : List ℕ) → Journals.occurs n (xs ++ ys) ≡ Journals.occurs n xs + Journals.occurs n ys
-occurs-append n [] ys = omega arith
-occurs-append n (x ∷ xs) ys = omega (arith, occurs-append n xs ys)
 
 pub waits_is : (n : ℕ) (qs : List Waiting) → Journals.occurs n (Journals.waiting_numbers qs) ≡ waits n qs
 waits_is n [] = refl

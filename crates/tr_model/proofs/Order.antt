@@ -9,7 +9,7 @@ use Rattle.tr_model.specs.declared.rows.Target.{Target}
 use Rattle.tr_model.specs.declared.rows.Target.TheVariants as target
 use Rattle.std.specs.List.{list_all}
 use Rattle.tr_tracee.specs.declared.thread.Thread.{Thread}
-use Rattle.tr_model.specs.declared.events.Choice.{Choice}
+use Rattle.tr_model.specs.Choices.{Choice}
 use Rattle.tr_model.specs.declared.events.Event.{Event}
 use Rattle.tr_model.specs.declared.events.Event.TheVariants as event
 use Rattle.tr_model.specs.declared.events.Entry.{Entry}
@@ -21,7 +21,6 @@ use Rattle.tr_model.specs.declared.rows.Waiting.{Waiting}
 use Rattle.tr_model.specs.declared.fates.Ending.{Ending}
 use Rattle.tr_model.specs.Journals.{IsIn, Taken}
 use Rattle.tr_model.specs.Laws.{PassesOn}
-use Rattle.tr_model.specs.declared.raises.Raise.{Raise}
 use Rattle.tr_model.specs.Moves.{Work}
 use Rattle.tr_model.specs.Tables.{Table}
 use Rattle.tr_tracee.specs.Lives.{held}
@@ -38,6 +37,7 @@ use Rattle.tr_model.specs.Takes
 use Rattle.tr_tracee.specs.Threads
 use Rattle.tr_tracee.specs.Ends as TraceeEnds
 use Rattle.tr_tracee.specs.Stops as TraceeStops
+use Rattle.tr_model.proofs.Among.{is_in-last}
 
 abbrev In : {A : Type 0} → A → List A → Type 0
 In x [] = ⊥
@@ -215,10 +215,6 @@ passes_more (target.Thread id) [] ys h = absurd h
 passes_more (target.Thread id) (x ∷ xs) ys (inl e) = inl e
 passes_more (target.Thread id) (x ∷ xs) ys (inr h) = inr (passes_more (target.Thread id) xs ys h)
 
-passes_last : (id : ℕ) (xs : List ℕ) → IsIn id (xs ++ id ∷ [])
-passes_last id [] = inl refl
-passes_last id (x ∷ xs) = inr (passes_last id xs)
-
 module _ (q : Target) (s n : ℕ) (before : List ℕ) where
   record Later (w : Work) : Type 0 where
     born : n ≤ w.table.accepted
@@ -275,7 +271,7 @@ module _ (q : Target) (s n : ℕ) (before : List ℕ) where
       more p = subst (PassesOn q) (append_assoc before w.renamed (t.group ∷ [])) (passes_more q (before ++ w.renamed) (t.group ∷ []) p)
 
       to_thread : (k : ℕ) → q ≡ target.Thread k → AllAfter q s n w.table.waiting → (t.group ≡ k) ⊎ (t.group ≡ k → ⊥) → PassesOn q (before ++ (w.renamed ++ t.group ∷ [])) ⊎ AllAfter q s n (map (Moves.retargeted t.id t.group) w.table.waiting)
-      to_thread k e h (inl g) = inl (subst (λ r. PassesOn r (before ++ (w.renamed ++ t.group ∷ []))) (sym (e ∙ ap target.Thread (sym g))) (subst (IsIn t.group) (append_assoc before w.renamed (t.group ∷ [])) (passes_last t.group (before ++ w.renamed))))
+      to_thread k e h (inl g) = inl (subst (λ r. PassesOn r (before ++ (w.renamed ++ t.group ∷ []))) (sym (e ∙ ap target.Thread (sym g))) (subst (IsIn t.group) (append_assoc before w.renamed (t.group ∷ [])) (is_in-last t.group (before ++ w.renamed))))
       to_thread k e h (inr differ) = inr (reaimed_after q s n t.id t.group (λ r x. aimed_thread t.id t.group k r differ (x ∙ e) ∙ sym e) w.table.waiting h)
 
       by_target : (r : Target) → q ≡ r → AllAfter q s n w.table.waiting → PassesOn q (before ++ (w.renamed ++ t.group ∷ [])) ⊎ AllAfter q s n (map (Moves.retargeted t.id t.group) w.table.waiting)

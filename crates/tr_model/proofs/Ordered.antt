@@ -15,7 +15,7 @@ use Rattle.tr_model.specs.Journals.{AllUpTo, IsSorted}
 use Rattle.tr_model.specs.Deaths
 use Rattle.tr_model.specs.Execs
 use Rattle.tr_model.specs.Journals.{IsStart}
-use Rattle.tr_model.specs.Requests
+use Rattle.tr_model.specs.Restarts
 use Rattle.tr_model.specs.Laws
 use Rattle.tr_model.specs.Steps.{Admits, work_of}
 use Rattle.tr_model.specs.Tables.{Table, thread_of}
@@ -55,10 +55,10 @@ become_ordered fate f w p = record { sorted = p.sorted; up_to = p.up_to }
 pub changing_ordered : (fate : Fate) (f : Thread → Thread) (t : Thread) (w : Work) → Ordered w → Ordered (moves.change_ending fate f t w)
 changing_ordered fate f t w p = record { sorted = p.sorted; up_to = p.up_to }
 
-pub resume_ordered : (fate : Fate) (t : Thread) (w : Work) → Ordered w → Ordered (Requests.resume fate t w)
+pub resume_ordered : (fate : Fate) (t : Thread) (w : Work) → Ordered w → Ordered (Restarts.resume fate t w)
 resume_ordered fate t w p = record { sorted = p.sorted; up_to = p.up_to }
 
-pub listen_ordered : (t : Thread) (w : Work) → Ordered w → Ordered (Requests.listen t w)
+pub listen_ordered : (t : Thread) (w : Work) → Ordered w → Ordered (Restarts.listen t w)
 listen_ordered t w p = record { sorted = p.sorted; up_to = p.up_to }
 
 pub break_others_ordered : (g id : ℕ) (w : Work) → Ordered w → Ordered (Execs.break_others g id w)

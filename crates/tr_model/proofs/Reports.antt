@@ -1,5 +1,6 @@
 -- Which reports stand in the table, and that each move keeps count of them.
 use Rattle.std.proofs.Common.{◌≡◌, ℕ, zero, suc, ◌+◌, ◌≤◌, List, [], ◌∷◌, ◌++◌, true, false, Some, None, Option, refl, sym, ap, ◌∙◌, map, filter, Bool, not, ◌&&◌, ◌==◌, ◌⊎◌, inl, inr, if◌then◌else◌, arith, cond, add-one, append_assoc, subst}
+use Rattle.std.proofs.lemmas.Option.{none-some}
 use Rattle.tr_pending.specs.declared.instance.Instance.{Instance}
 use Rattle.tr_tracee.specs.declared.thread.Report.{Report}
 use Rattle.tr_wait.specs.declared.status.Status.{Status}
@@ -68,9 +69,6 @@ pub record Reported (before : List Raise) (taken : List ℕ) (w : Work) : Type 0
 
 -- Small facts
 
-is_some_not : (x : Report) → None ≡ Some x → ⊥
-is_some_not x e = cc
-
 was_raised-append : (r : ℕ) (whom : Option ℕ) (xs ys : List Raise) → WasRaised r whom xs → WasRaised r whom (xs ++ ys)
 was_raised-append r whom [] ys h = absurd h
 was_raised-append r whom (x ∷ xs) ys (inl e) = inl e
@@ -98,11 +96,11 @@ calm_owned : (hs : List Raise) (t u : Thread) → Calm t u → Owned hs t → Ow
 calm_owned hs t u c h x e = go c.reports
   where
     go : ((u.report ≡ None) ⊎ ((u.report ≡ t.report) × (Threads.tracer_of u.trace ≡ Threads.tracer_of t.trace))) → WasRaised x.number (Threads.tracer_of u.trace) hs
-    go (inl n) = absurd (is_some_not x (sym n ∙ e))
+    go (inl n) = absurd (none-some x (sym n ∙ e))
     go (inr s) = subst (λ whom. WasRaised x.number whom hs) (sym s.1) (h x (sym s.0 ∙ e))
 
 pub no_report : (hs : List Raise) (o : Option Report) (whom : Option ℕ) → o ≡ None → RaisedFor hs o whom
-no_report hs o whom n x e = absurd (is_some_not x (sym n ∙ e))
+no_report hs o whom n x e = absurd (none-some x (sym n ∙ e))
 
 -- groups
 
@@ -246,7 +244,7 @@ module _ (before : List Raise) (taken : List ℕ) where
       go : (f : Bool) → Reported before taken (if f then Moves.added (TraceeEnds.child id mark t) w else w)
       go true = record {
         count = λ r. omega (arith, p.count r, total-append (reports r) w.table.threads (TraceeEnds.child id mark t ∷ []));
-        threads = each-append (Owned (before ++ w.raises)) w.table.threads (TraceeEnds.child id mark t ∷ []) p.threads ((λ x e. absurd (is_some_not x e)), tt);
+        threads = each-append (Owned (before ++ w.raises)) w.table.threads (TraceeEnds.child id mark t ∷ []) p.threads ((λ x e. absurd (none-some x e)), tt);
         groups = p.groups;
       }
       go false = p
@@ -265,7 +263,7 @@ module _ (before : List Raise) (taken : List ℕ) where
       owned x h = at_place (x.id == t.group && Lives.is_dead x.life)
         where
           at_place : (b : Bool) → Owned (before ++ w.raises) (if b then Moves.renamed t.group t else x)
-          at_place true = λ y q. absurd (is_some_not y q)
+          at_place true = λ y q. absurd (none-some y q)
           at_place false = h
 
       go : (b : Bool) → Reported before taken (if b then Moves.with_leaders_row t w else w)

@@ -1,6 +1,7 @@
 -- Between two waits for stops of one thread it was restarted.
 use Rattle.std.proofs.Common.{◌≡◌, ℕ, ◌+◌, List, [], ◌∷◌, ◌++◌, true, false, Some, None, Option, refl, sym, ap, ◌∙◌, map, filter, Bool, not, ◌&&◌, ◌==◌, ◌⊎◌, inl, inr, if◌then◌else◌, cond, true≢false, subst}
 use Rattle.std.proofs.lemmas.Bool.{and_right, eqb-true, and_parts, cases_eq, ne_eqb, eq-eqb}
+use Rattle.std.proofs.lemmas.Option.{none-some, same_Some}
 use Rattle.tr_pending.specs.declared.instance.Instance.{Instance}
 use Rattle.tr_tracee.specs.declared.life.Life.{Life}
 use Rattle.tr_tracee.specs.declared.life.Life.TheVariants as life
@@ -25,7 +26,6 @@ use Rattle.tr_model.proofs.Calm.{Calm, Tame, calm_throughout, calm_broken, calm_
 use Rattle.tr_model.proofs.Kept.{Leave, leave, found_id, entry-kept, admits_new, MayRestart, MayExec, Kept, tracer_is, itself}
 use Rattle.tr_model.specs.Journals.{IsIn}
 use Rattle.tr_model.specs.Laws.{IsRestart, Restarts, SomeRestarts}
-use Rattle.tr_model.specs.declared.raises.Raise.{Raise}
 use Rattle.tr_model.specs.Moves.{Work}
 use Rattle.tr_model.specs.Tables.{Table}
 use Rattle.tr_tracee.specs.Lives.{held}
@@ -37,7 +37,7 @@ use Rattle.tr_model.specs.GroupStops
 use Rattle.tr_model.specs.Journals
 use Rattle.tr_tracee.specs.Lives
 use Rattle.tr_model.specs.Moves
-use Rattle.tr_model.specs.Requests
+use Rattle.tr_model.specs.Tracers
 use Rattle.tr_model.specs.Steps
 use Rattle.tr_model.specs.Tables
 use Rattle.tr_tracee.specs.Threads
@@ -45,15 +45,7 @@ use Rattle.tr_tracee.specs.Ends as TraceeEnds
 use Rattle.tr_tracee.specs.Stops as TraceeStops
 use Rattle.tr_model.specs.Waits
 use Rattle.tr_wait.specs.Words
-
-no_thread : (t : Thread) → None ≡ Some t → ⊥
-no_thread t e = cc
-
-same_thread : (x t : Thread) → Some x ≡ Some t → x ≡ t
-same_thread x t e = cc
-
-same_number : (a b : ℕ) → Some a ≡ Some b → a ≡ b
-same_number a b e = cc
+use Rattle.tr_model.proofs.Among.{is_in-last}
 
 -- the entry is a wait that consumed the report of this stopped thread
 abbrev pub WaitsFor : Table → Entry → Thread → Type 0
@@ -70,15 +62,15 @@ RestartBetween =
 -- What is found by an id
 
 found_map : (f : Thread → Thread) → ((x : Thread) → (f x).id ≡ x.id) → (id : ℕ) (t : Thread) (ts : List Thread) → Tables.thread_in ts id ≡ Some t → Tables.thread_in (map f ts) id ≡ Some (f t)
-found_map f k id t [] e = absurd (no_thread t e)
+found_map f k id t [] e = absurd (none-some t e)
 found_map f k id t (x ∷ ts) e = ap (λ (n : ℕ). if n == id then Some (f x) else Tables.thread_in (map f ts) id) (k x) ∙ go (x.id == id) e (found_map f k id t ts)
   where
     go : (b : Bool) → (if b then Some x else Tables.thread_in ts id) ≡ Some t → (Tables.thread_in ts id ≡ Some t → Tables.thread_in (map f ts) id ≡ Some (f t)) → (if b then Some (f x) else Tables.thread_in (map f ts) id) ≡ Some (f t)
-    go true q r = ap (λ (y : Thread). Some (f y)) (same_thread x t q)
+    go true q r = ap (λ (y : Thread). Some (f y)) (same_Some x t q)
     go false q r = r q
 
 found_other : (f : Thread → Thread) (u : Thread) (id : ℕ) (t : Thread) → (u.id ≡ id → ⊥) → (f u).id ≡ u.id → (ts : List Thread) → Tables.thread_in ts u.id ≡ Some u → Tables.thread_in ts id ≡ Some t → Tables.thread_in (Moves.changed u.id f ts) id ≡ Some t
-found_other f u id t d k [] h e = absurd (no_thread t e)
+found_other f u id t d k [] h e = absurd (none-some t e)
 found_other f u id t d k (x ∷ ts) h e = go (x.id == u.id) refl h (found_other f u id t d k ts)
   where
     skip : (y : Thread) → (y.id ≡ id → ⊥) → (rest : List Thread) → Tables.thread_in (y ∷ rest) id ≡ Tables.thread_in rest id
@@ -87,7 +79,7 @@ found_other f u id t d k (x ∷ ts) h e = go (x.id == u.id) refl h (found_other 
     go : (b : Bool) → (x.id == u.id) ≡ b → (if b then Some x else Tables.thread_in ts u.id) ≡ Some u → (Tables.thread_in ts u.id ≡ Some u → Tables.thread_in ts id ≡ Some t → Tables.thread_in (Moves.changed u.id f ts) id ≡ Some t)
         → Tables.thread_in (if b then f x ∷ ts else x ∷ Moves.changed u.id f ts) id ≡ Some t
     go true q s r =
-        let xu = same_thread x u s in
+        let xu = same_Some x u s in
         let k' : (f x).id ≡ u.id = ap (λ (y : Thread). (f y).id) xu ∙ k in
         skip (f x) (λ z. d (sym k' ∙ z)) ts ∙ (sym (skip x (λ z. d (sym (ap (λ (y : Thread). y.id) xu) ∙ z)) ts) ∙ e)
     go false q s r = inner (x.id == id) e
@@ -97,7 +89,7 @@ found_other f u id t d k (x ∷ ts) h e = go (x.id == u.id) refl h (found_other 
         inner false z = r s z
 
 found_dropped : (i id : ℕ) (t : Thread) → (i ≡ id → ⊥) → (ts : List Thread) → Tables.thread_in ts id ≡ Some t → Tables.thread_in (Moves.dropped i ts) id ≡ Some t
-found_dropped i id t d [] e = absurd (no_thread t e)
+found_dropped i id t d [] e = absurd (none-some t e)
 found_dropped i id t d (x ∷ ts) e = go (x.id == i) refl (found_dropped i id t d ts)
   where
     skip : (x.id ≡ id → ⊥) → Tables.thread_in (x ∷ ts) id ≡ Tables.thread_in ts id
@@ -112,11 +104,11 @@ found_dropped i id t d (x ∷ ts) e = go (x.id == i) refl (found_dropped i id t 
         inner false z = r z
 
 found_filter : (p : Thread → Bool) (id : ℕ) (t : Thread) → p t ≡ true → (ts : List Thread) → Tables.thread_in ts id ≡ Some t → Tables.thread_in (filter p ts) id ≡ Some t
-found_filter p id t h [] e = absurd (no_thread t e)
+found_filter p id t h [] e = absurd (none-some t e)
 found_filter p id t h (x ∷ ts) e = go (p x) refl (found_filter p id t h ts)
   where
     skip : (b : Bool) → (if b then Some x else Tables.thread_in ts id) ≡ Some t → p x ≡ false → Tables.thread_in ts id ≡ Some t
-    skip true q n = absurd (true≢false (sym h ∙ (ap p (sym (same_thread x t q)) ∙ n)))
+    skip true q n = absurd (true≢false (sym h ∙ (ap p (sym (same_Some x t q)) ∙ n)))
     skip false q n = q
 
     go : (b : Bool) → p x ≡ b → (Tables.thread_in ts id ≡ Some t → Tables.thread_in (filter p ts) id ≡ Some t) → Tables.thread_in (cond b (x ∷ filter p ts) (filter p ts)) id ≡ Some t
@@ -128,7 +120,7 @@ found_filter p id t h (x ∷ ts) e = go (p x) refl (found_filter p id t h ts)
     go false q r = r (skip (x.id == id) e q)
 
 found-append : (id : ℕ) (t : Thread) (ts us : List Thread) → Tables.thread_in ts id ≡ Some t → Tables.thread_in (ts ++ us) id ≡ Some t
-found-append id t [] us e = absurd (no_thread t e)
+found-append id t [] us e = absurd (none-some t e)
 found-append id t (x ∷ ts) us e = go (x.id == id) e (found-append id t ts us)
   where
     go : (b : Bool) → (if b then Some x else Tables.thread_in ts id) ≡ Some t → (Tables.thread_in ts id ≡ Some t → Tables.thread_in (ts ++ us) id ≡ Some t) → (if b then Some x else Tables.thread_in (ts ++ us) id) ≡ Some t
@@ -139,10 +131,6 @@ is_in-more : (g : ℕ) (xs ys : List ℕ) → IsIn g xs → IsIn g (xs ++ ys)
 is_in-more g [] ys h = absurd h
 is_in-more g (x ∷ xs) ys (inl e) = inl e
 is_in-more g (x ∷ xs) ys (inr h) = inr (is_in-more g xs ys h)
-
-is_in-last : (g : ℕ) (xs : List ℕ) → IsIn g (xs ++ g ∷ [])
-is_in-last g [] = inl refl
-is_in-last g (x ∷ xs) = inr (is_in-last g xs)
 
 in_stop_no_enter : (l : Life) → Lives.is_in_stop l ≡ true → TraceeStops.may_enter l ≡ true → ⊥
 in_stop_no_enter (life.InStop s) h m = true≢false (sym m)
@@ -217,7 +205,7 @@ module _ (id a g : ℕ) (Flag : Type 0) where
   changing-stays fate f t c r w e = moving (Moves.change_ending fate f t w) w refl (λ s. go s (cases_eq t.id id))
     where
       go : Still w.table → (t.id ≡ id) ⊎ (t.id ≡ id → ⊥) → Still (Moves.change_ending fate f t w).table ⊎ Flag
-      go s (inl i) = let st = same_thread s.thread t (sym s.found ∙ (ap (Tables.thread_in w.table.threads) (sym i) ∙ e)) in inr (r i (ap (λ (x : Thread). Threads.tracer_of x.trace) (sym st) ∙ s.tracer))
+      go s (inl i) = let st = same_Some s.thread t (sym s.found ∙ (ap (Tables.thread_in w.table.threads) (sym i) ∙ e)) in inr (r i (ap (λ (x : Thread). Threads.tracer_of x.trace) (sym st) ∙ s.tracer))
       go s (inr d) = inl (record { thread = s.thread; found = found_other f t id s.thread d c.id w.table.threads e s.found; stopped = s.stopped; tracer = s.tracer; group = s.group; silent = s.silent })
 
   -- a change throughout another group
@@ -265,7 +253,7 @@ module _ (id a g : ℕ) (Flag : Type 0) where
   raising-stays f t st k n w e = moving (Moves.raise_with f t st w) w refl (λ s. go s (cases_eq t.id id))
     where
       go : Still w.table → (t.id ≡ id) ⊎ (t.id ≡ id → ⊥) → Still (Moves.raise_with f t st w).table ⊎ Flag
-      go s (inl i) = let st = same_thread s.thread t (sym s.found ∙ (ap (Tables.thread_in w.table.threads) (sym i) ∙ e)) in absurd (n (ap (λ (x : Thread). Lives.is_in_stop x.life) (sym st) ∙ s.stopped))
+      go s (inl i) = let st = same_Some s.thread t (sym s.found ∙ (ap (Tables.thread_in w.table.threads) (sym i) ∙ e)) in absurd (n (ap (λ (x : Thread). Lives.is_in_stop x.life) (sym st) ∙ s.stopped))
       go s (inr d) = inl (record { thread = s.thread; found = found_other f t id s.thread d k w.table.threads e s.found; stopped = s.stopped; tracer = s.tracer; group = s.group; silent = s.silent })
 
   at-stays : (i : ℕ) (move : Thread → Work → Work) (w : Work) → ((t : Thread) → Tables.thread_of w.table t.id ≡ Some t → Stays (move t w)) → Stays w → Stays (Moves.at i move w)
@@ -341,7 +329,7 @@ module _ (id a g : ℕ) (Flag : Type 0) where
       })) p
         where
           differs : Still w.table → t.id ≡ id → ⊥
-          differs s i = let st = same_thread s.thread t (sym s.found ∙ (ap (Tables.thread_in w.table.threads) (sym i) ∙ e)) in in_stop_not_execing s.thread.life s.stopped (ap (λ (x : Thread). Lives.is_execing x.life) st ∙ (and_parts _ _ q).0)
+          differs s i = let st = same_Some s.thread t (sym s.found ∙ (ap (Tables.thread_in w.table.threads) (sym i) ∙ e)) in in_stop_not_execing s.thread.life s.stopped (ap (λ (x : Thread). Lives.is_execing x.life) st ∙ (and_parts _ _ q).0)
       go false q = p
 
   moves-stay : Kept may_restart may_break Stays
@@ -372,7 +360,7 @@ restarts_by : (id a g : ℕ) (T : Table) (b : ℕ) (e : Event) → MayRestart (m
 restarts_by id a g T b (event.Cont x s) = λ l h i t. sym h ∙ i
 restarts_by id a g T b (event.Listen x) = λ l h i t. sym h ∙ i
 restarts_by id a g T b (event.Detach x s) = λ l h i t. sym h ∙ i
-restarts_by id a g T b event.TracerExit = λ l h i t. same_number b a (sym h ∙ t)
+restarts_by id a g T b event.TracerExit = λ l h i t. same_Some b a (sym h ∙ t)
 restarts_by id a g T b _ = tt
 
 execs_by : (id a g : ℕ) (T : Table) (b : ℕ) (e : Event) → MayExec (may_break id a g (IsRestart id a g T b e)) T e
@@ -430,7 +418,7 @@ settles_threads w (x ∷ xs) = settles_threads (GroupStops.complete_group_stop x
 tracer_of_found : (T : Table) (a : ℕ) (which : Which) (r : ℕ) (t : Thread) → Waits.ready_thread T a which r ≡ Some t → Threads.tracer_of t.trace ≡ Some a
 tracer_of_found T a which r t e =
     let f = found_in r t _ e in
-    tracer_is a t.trace (member_filter _ t T.threads (member_filter _ t (Requests.tracees T a) f.0).0).1
+    tracer_is a t.trace (member_filter _ t T.threads (member_filter _ t (Tracers.tracees T a) f.0).0).1
 
 waited_still : (T : Table) (e : Entry) (t : Thread) → WaitsFor T e t → Still t.id e.actor t.group ⊥ (Steps.work_of T e).table
 waited_still T e t w = subst (λ ev. Still t.id e.actor t.group ⊥ (GroupStops.complete_group_stops (Steps.work_of_event e.actor ev e.choice (Moves.begin T))).table) (sym w.2) by_wait
@@ -462,5 +450,5 @@ restart_between T M U between rs e f x t u se we r wf same = go (replay_still t.
     go : Still t.id e.actor t.group ⊥ U ⊎ SomeRestarts t.id e.actor t.group M between → SomeRestarts t.id e.actor t.group M between
     go (inr h) = h
     go (inl s) =
-        let st = same_thread s.thread u (sym s.found ∙ (ap (Tables.thread_of U) (sym same) ∙ wf.5)) in
-        absurd (not_silent wf.1 u.report (found_in wf.1 u (filter (λ t. Words.asks_for wf.0 t.id) (Requests.tracees U f.actor)) wf.4).1 (ap (λ (y : Thread). y.report) (sym st) ∙ s.silent))
+        let st = same_Some s.thread u (sym s.found ∙ (ap (Tables.thread_of U) (sym same) ∙ wf.5)) in
+        absurd (not_silent wf.1 u.report (found_in wf.1 u (filter (λ t. Words.asks_for wf.0 t.id) (Tracers.tracees U f.actor)) wf.4).1 (ap (λ (y : Thread). y.report) (sym st) ∙ s.silent))

@@ -28,7 +28,7 @@ sorted_less m (q ∷ qs) h = elim (q.instance.n == m) as (λ b. IsSorted (if b t
 
 -- One more, with a greater number than all
 
-above_more : (n : ℕ) (qs : List Waiting) (q : Waiting) → AllAbove n qs → n < q.instance.n → AllAbove n (qs ++ q ∷ [])
+pub above_more : (n : ℕ) (qs : List Waiting) (q : Waiting) → AllAbove n qs → n < q.instance.n → AllAbove n (qs ++ q ∷ [])
 above_more n [] q h k = (k, tt)
 above_more n (x ∷ qs) q h k = (h.0, above_more n qs q h.1 k)
 

@@ -1,5 +1,6 @@
 -- A report of a stop stands at a thread that is in it.
 use Rattle.std.proofs.Common.{◌≡◌, ℕ, ◌+◌, [], ◌∷◌, true, false, Some, None, Option, refl, sym, ◌∙◌, map, Bool, not, ◌&&◌, ◌==◌, ◌⊎◌, inl, inr, if◌then◌else◌, subst}
+use Rattle.std.proofs.lemmas.Option.{none-some}
 use Rattle.tr_pending.specs.declared.instance.Instance.{Instance}
 use Rattle.tr_tracee.specs.declared.thread.Report.{Report}
 use Rattle.tr_wait.specs.declared.status.Status.{Status}
@@ -13,7 +14,6 @@ use Rattle.tr_model.proofs.Calm.{Tame}
 use Rattle.tr_model.proofs.Kept.{Kept, any, any_of, itself}
 use Rattle.tr_model.specs.Journals.{Each}
 use Rattle.tr_model.specs.Laws.{IsStopStatus}
-use Rattle.tr_model.specs.declared.raises.Raise.{Raise}
 use Rattle.tr_model.specs.Moves.{Work}
 use Rattle.tr_model.specs.Tables.{Table}
 use Rattle.tr_tracee.specs.Lives.{held}
@@ -21,7 +21,7 @@ use Rattle.tr_model.specs.Deaths
 use Rattle.tr_model.specs.Execs
 use Rattle.tr_tracee.specs.Lives
 use Rattle.tr_model.specs.Moves
-use Rattle.tr_model.specs.Requests
+use Rattle.tr_model.specs.Restarts
 use Rattle.tr_model.specs.Tables
 use Rattle.tr_tracee.specs.Threads
 use Rattle.tr_tracee.specs.Ends as TraceeEnds
@@ -33,17 +33,14 @@ Speaks t = (x : Report) → t.report ≡ Some x → IsStopStatus x.status → Li
 pub record Spoken (w : Work) : Type 0 where
   pub each : Each Speaks w.table.threads
 
-no_report : (x : Report) → None ≡ Some x → ⊥
-no_report x e = cc
-
 pub silent : (t : Thread) → t.report ≡ None → Speaks t
-silent t n x e = absurd (no_report x (sym n ∙ e))
+silent t n x e = absurd (none-some x (sym n ∙ e))
 
 tame_speaks : (t u : Thread) → Tame t u → Speaks t → Speaks u
 tame_speaks t u c h x e s = go c.calm.reports
   where
     go : ((u.report ≡ None) ⊎ ((u.report ≡ t.report) × (Threads.tracer_of u.trace ≡ Threads.tracer_of t.trace))) → Lives.is_in_stop u.life ≡ true
-    go (inl n) = absurd (no_report x (sym n ∙ e))
+    go (inl n) = absurd (none-some x (sym n ∙ e))
     go (inr r) = c.stops (h x (sym r.0 ∙ e) s)
 
 throughout_speaks : (g : ℕ) (f : Thread → Thread) → ((t : Thread) → Speaks t → Speaks (f t)) → (t : Thread) → Speaks t → Speaks (Threads.at_group g f t)
@@ -116,7 +113,7 @@ spawned-spoken : (id : ℕ) (mark : Bool) (t : Thread) (w : Work) → Spoken w �
 spawned-spoken id mark t w d = go (Lives.is_free t.life)
   where
     go : (b : Bool) → Spoken (if b then Moves.added (TraceeEnds.child id mark t) w else w)
-    go true = record { each = each-append Speaks w.table.threads (TraceeEnds.child id mark t ∷ []) d.each ((λ x e. absurd (no_report x e)), tt) }
+    go true = record { each = each-append Speaks w.table.threads (TraceeEnds.child id mark t ∷ []) d.each ((λ x e. absurd (none-some x e)), tt) }
     go false = d
 
 placed-spoken : (t : Thread) (w : Work) → Spoken w → Spoken (Moves.taking_place t w)
@@ -141,8 +138,8 @@ death-spoken g s kill w d =
 pub moves-spoken : Kept any any_of Spoken
 moves-spoken = record {
   alter = λ f h w d. map_spoken f (λ t. tame_speaks t (f t) (h t)) w (Moves.alter f w) refl d;
-  resume = λ fate live t r w e d. put_spoken TraceeStops.restarted t (silent (TraceeStops.restarted t) refl) w (Requests.resume fate t w) refl e d;
-  listen = λ t r w e d. put_spoken TraceeStops.listening t (silent (TraceeStops.listening t) refl) w (Requests.listen t w) refl e d;
+  resume = λ fate live t r w e d. put_spoken TraceeStops.restarted t (silent (TraceeStops.restarted t) refl) w (Restarts.resume fate t w) refl e d;
+  listen = λ t r w e d. put_spoken TraceeStops.listening t (silent (TraceeStops.listening t) refl) w (Restarts.listen t w) refl e d;
   break_others = λ g id x w d. map_spoken (Threads.at_group g (TraceeEnds.begun_to_leave_by_exec id (ending.Exited 0))) (throughout_speaks g (TraceeEnds.begun_to_leave_by_exec id (ending.Exited 0)) (exec_speaks id (ending.Exited 0))) w (Execs.break_others g id w) refl d;
   begin_death = death-spoken;
   kill_group = λ g w d. death-spoken g (ending.Killed 9) true (Moves.tell_killed g w) (as_spoken w (Moves.tell_killed g w) refl d);

@@ -10,6 +10,7 @@ use Rattle.tr_model.specs.Journals
 use Rattle.tr_model.specs.Journals.{Each, EachGroup, IsIn, occurs}
 use Rattle.tr_model.specs.Laws
 use Rattle.tr_model.specs.Tables.{Table}
+use Rattle.tr_model.proofs.Among.{occurs-append}
 use Rattle.tr_model.proofs.Between.{Sane, entry_sane, ids_total, replay_keeps, start_sane}
 use Rattle.tr_model.proofs.Measures.{total}
 use Rattle.tr_model.proofs.OneFate.{one_fate}
@@ -26,10 +27,6 @@ occurs-in n (x ∷ xs) (inl e) = go (x == n) (eq-eqb x n e)
     go true e = omega arith
     go false e = cc
 occurs-in n (x ∷ xs) (inr h) = omega (arith, occurs-in n xs h)
-
-pub occurs-append : (n : ℕ) (xs ys : List ℕ) → occurs n (xs ++ ys) ≡ occurs n xs + occurs n ys
-occurs-append n [] ys = omega arith
-occurs-append n (x ∷ xs) ys = omega (arith, occurs-append n xs ys)
 
 pub numbers_accepted : Laws.NumbersAreAccepted
 numbers_accepted T U es rs s r n h = (elim (cases_lt n 1) [ inl l ↦ absurd (none (inl (omega arith))) | inr m ↦ m ], elim (cases_lt U.accepted n) [ inl l ↦ absurd (none (inr l)) | inr m ↦ m ])

@@ -4,6 +4,7 @@ use Rattle.std.specs.Prelude.{filter, is_some, map}
 use Rattle.std.specs.List.{list_all}
 use Rattle.std.proofs.lemmas.Bool.{and_from, cases_lt, eq-eqb, eqb-false, eqb-true, leb-false, leb-true, true≢false}
 use Rattle.std.proofs.lemmas.Bool.Decides.{nat_tests}
+use Rattle.std.specs.Option.{option_or}
 use Rattle.tr_sigset.specs.Sets.{has}
 use Rattle.tr_sigset.specs.declared.sets.SigSet.{SigSet}
 use Rattle.tr_pending.specs.Waiting.{best_of, preferred_of}
@@ -15,7 +16,7 @@ use Rattle.tr_model.specs.declared.rows.Target.TheVariants as target
 use Rattle.tr_model.specs.declared.rows.Waiting.{Waiting}
 use Rattle.tr_model.specs.Journals.{IsSorted, taken_by}
 use Rattle.tr_model.specs.Moves.{instance_in}
-use Rattle.tr_model.specs.Preferred.{best_for, or_other}
+use Rattle.tr_model.specs.Preferred.{best_for}
 use Rattle.tr_model.specs.Tables.{Table, queue, same_target}
 use Rattle.tr_model.specs.Takes.{can_take, choices, choices_in, goes_before, is_empty, taken_from, unblocked, with_number}
 use Rattle.tr_model.proofs.Among.{Among, among_filter, among_left, among_right, filter_among}
@@ -87,7 +88,7 @@ no_choice_left mask is e = go (unblocked mask is) (sym (best_is_least mask is) �
 
 record Taking (mask : SigSet) (own shared : List Instance) : Type 0 where
   instance : Instance
-  best : or_other (best_of mask own) (best_of mask shared) ≡ Some instance
+  best : option_or (best_of mask own) (best_of mask shared) ≡ Some instance
   among : Among instance (choices_in (unblocked mask own) ++ choices_in (unblocked mask shared))
 
 taking : (mask : SigSet) (own shared : List Instance) → InOrder own → InOrder shared
@@ -95,17 +96,17 @@ taking : (mask : SigSet) (own shared : List Instance) → InOrder own → InOrde
 taking mask own shared o p c = go (best_of mask own) refl (best_of mask shared) refl
   where
     go : (b : Option Instance) → best_of mask own ≡ b → (d : Option Instance) → best_of mask shared ≡ d → Taking mask own shared
-    go (Some i) e d f = record { instance = i; best = ap (λ x. or_other x (best_of mask shared)) e; among = among_left i _ _ (best_is_choice mask own i o e) }
+    go (Some i) e d f = record { instance = i; best = ap (λ x. option_or x (best_of mask shared)) e; among = among_left i _ _ (best_is_choice mask own i o e) }
     go None e (Some i) f = record {
       instance = i;
-      best = ap (λ x. or_other x (best_of mask shared)) e ∙ f;
+      best = ap (λ x. option_or x (best_of mask shared)) e ∙ f;
       among = among_right i (choices_in (unblocked mask own)) _ (best_is_choice mask shared i p f);
     }
     go None e None f =
         absurd (true≢false (sym c ∙ (ap (λ x. not (is_empty (x ++ choices_in (unblocked mask shared)))) (no_choice_left mask own e)
         ∙ ap (λ x. not (is_empty x)) (no_choice_left mask shared f))))
 
-numbered_there : (i : Instance) (is : List Instance) → Among i is → is_some (with_number i.n is) ≡ true
+pub numbered_there : (i : Instance) (is : List Instance) → Among i is → is_some (with_number i.n is) ≡ true
 numbered_there i [] m = absurd m
 numbered_there i (j ∷ is) (inl e) = rw (eq-eqb j.n i.n (ap (λ z. z.n) (sym e))) refl
 numbered_there i (j ∷ is) (inr m) = elim (j.n == i.n) as (λ b. is_some (if b then Some j else with_number i.n is) ≡ true) [ true ↦ refl | false ↦ numbered_there i is m ]
@@ -181,7 +182,7 @@ none_left_append : (xs ys : List Instance) → is_empty (xs ++ ys) ≡ (is_empty
 none_left_append [] ys = refl
 none_left_append (x ∷ xs) ys = refl
 
-either_some : (a b : Option Instance) → not (not (is_some a) && not (is_some b)) ≡ is_some (or_other a b)
+either_some : (a b : Option Instance) → not (not (is_some a) && not (is_some b)) ≡ is_some (option_or a b)
 either_some None None = refl
 either_some None (Some j) = refl
 either_some (Some i) b = refl
@@ -194,7 +195,7 @@ can_take_best T t = go (is_ready_to_take t) refl
     go true e =
         let own = queue T (target.Thread t.id) in
         let shared = queue T (target.Group t.group) in
-        let h : not (is_empty (choices_in (unblocked t.mask own) ++ choices_in (unblocked t.mask shared))) ≡ is_some (or_other (best_of t.mask own) (best_of t.mask shared)) =
+        let h : not (is_empty (choices_in (unblocked t.mask own) ++ choices_in (unblocked t.mask shared))) ≡ is_some (option_or (best_of t.mask own) (best_of t.mask shared)) =
         ap not (none_left_append (choices_in (unblocked t.mask own)) (choices_in (unblocked t.mask shared)))
         ∙ (ap (λ b. not (b && is_empty (choices_in (unblocked t.mask shared)))) (left_where_best t.mask own)
         ∙ (ap (λ b. not (not (is_some (best_of t.mask own)) && b)) (left_where_best t.mask shared)
@@ -203,7 +204,7 @@ can_take_best T t = go (is_ready_to_take t) refl
 
 -- What is best for a thread is the choice of its number, and waits
 
-among_either : (i : Instance) (xs ys : List Instance) → Among i (xs ++ ys) → Among i xs ⊎ Among i ys
+pub among_either : (i : Instance) (xs ys : List Instance) → Among i (xs ++ ys) → Among i xs ⊎ Among i ys
 among_either i [] ys m = inr m
 among_either i (x ∷ xs) ys (inl e) = inl (inl e)
 among_either i (x ∷ xs) ys (inr m) = later (among_either i xs ys m)
@@ -212,7 +213,7 @@ among_either i (x ∷ xs) ys (inr m) = later (among_either i xs ys m)
     later (inl h) = inl (inr h)
     later (inr h) = inr h
 
-abbrev all_instances : List Waiting → List Instance
+abbrev pub all_instances : List Waiting → List Instance
 all_instances ws = map (λ w. w.instance) ws
 
 among_queue : (p : Waiting → Bool) (i : Instance) (ws : List Waiting) → Among i (all_instances (filter p ws)) → Among i (all_instances ws)
@@ -224,7 +225,7 @@ among_queue p i (w ∷ ws) m = go (p w) m (among_queue p i ws)
     go true (inr h) r = inr (r h)
     go false h r = inr (r h)
 
-chosen_waits : (T : Table) (mask : SigSet) (q : Target) (i : Instance) → Among i (choices_in (unblocked mask (queue T q))) → Among i (all_instances T.waiting)
+pub chosen_waits : (T : Table) (mask : SigSet) (q : Target) (i : Instance) → Among i (choices_in (unblocked mask (queue T q))) → Among i (all_instances T.waiting)
 chosen_waits T mask q i m =
     let xs = unblocked mask (queue T q) in
     let a = filter_among (λ j. list_all (λ k. not (goes_before k j)) xs) i xs m in
@@ -236,14 +237,14 @@ past_among n i [] p m = absurd m
 past_among n i (x ∷ is) p (inl e) = subst (λ z. n < z.n) (sym e) p.0
 past_among n i (x ∷ is) p (inr m) = past_among n i is p.1 m
 
-same_number : (i j : Instance) (is : List Instance) → InOrder is → Among i is → Among j is → i.n ≡ j.n → i ≡ j
+pub same_number : (i j : Instance) (is : List Instance) → InOrder is → Among i is → Among j is → i.n ≡ j.n → i ≡ j
 same_number i j [] o m k e = absurd m
 same_number i j (x ∷ is) o (inl p) (inl q) e = p ∙ sym q
 same_number i j (x ∷ is) o (inl p) (inr k) e = absurd (let h = past_among x.n j is o.0 k in let s : i.n ≡ x.n = ap (λ z. z.n) p in omega (arith, h, s, e))
 same_number i j (x ∷ is) o (inr m) (inl q) e = absurd (let h = past_among x.n i is o.0 m in let s : j.n ≡ x.n = ap (λ z. z.n) q in omega (arith, h, s, e))
 same_number i j (x ∷ is) o (inr m) (inr k) e = same_number i j is o.1 m k e
 
-numbered_is : (i : Instance) (is : List Instance) → Among i is → ((j : Instance) → Among j is → j.n ≡ i.n → j ≡ i) → with_number i.n is ≡ Some i
+pub numbered_is : (i : Instance) (is : List Instance) → Among i is → ((j : Instance) → Among j is → j.n ≡ i.n → j ≡ i) → with_number i.n is ≡ Some i
 numbered_is i [] m u = absurd m
 numbered_is i (x ∷ xs) m u = go (x.n == i.n) refl m (λ k. numbered_is i xs k (λ j h. u j (inr h)))
   where
@@ -252,7 +253,7 @@ numbered_is i (x ∷ xs) m u = go (x.n == i.n) refl m (λ k. numbered_is i xs k 
     go false e (inl s) r = absurd (eqb-false x.n i.n e (ap (λ z. z.n) (sym s)))
     go false e (inr k) r = r k
 
-instance_numbered : (n : ℕ) (ws : List Waiting) → instance_in ws n ≡ with_number n (all_instances ws)
+pub instance_numbered : (n : ℕ) (ws : List Waiting) → instance_in ws n ≡ with_number n (all_instances ws)
 instance_numbered n [] = refl
 instance_numbered n (w ∷ ws) = ap (λ o. if w.instance.n == n then Some w.instance else o) (instance_numbered n ws)
 
@@ -301,7 +302,7 @@ best_is_chosen T t i s e = go (is_ready_to_take t) refl
         none q = cc
     go true r = by (best_of t.mask own) refl (rw r at e)
       where
-        by : (o : Option Instance) → best_of t.mask own ≡ o → or_other o (best_of t.mask shared) ≡ Some i → Best T t i
+        by : (o : Option Instance) → best_of t.mask own ≡ o → option_or o (best_of t.mask shared) ≡ Some i → Best T t i
         by (Some j) f q =
             let same : j ≡ i = cc in
             let m = best_is_choice t.mask own i (queue_in_order T (target.Thread t.id) s) (f ∙ ap Some same) in

@@ -4,7 +4,7 @@ use Rattle.std.proofs.lemmas.Bool.{le-leb, eqb-true, and_from, eq-eqb}
 use Rattle.tr_model.specs.declared.events.Entry.{Entry}
 use Rattle.tr_model.specs.declared.fates.Fate.{Fate}
 use Rattle.tr_model.specs.declared.fates.Fate.TheVariants.{Pending, Merged, Delivered, Suppressed, Flushed}
-use Rattle.tr_model.proofs.OneFate.{waits, one, gone, holds, Sound, born_within, occurs-append, waits_is, held_is, replay_sound, start_sound}
+use Rattle.tr_model.proofs.OneFate.{waits, one, gone, holds, Sound, born_within, waits_is, held_is, replay_sound, start_sound}
 use Rattle.tr_model.proofs.Measures.{total}
 use Rattle.tr_model.specs.declared.fates.Ending.{Ending}
 use Rattle.tr_model.specs.Journals.{IsIn, Taken}
@@ -12,6 +12,7 @@ use Rattle.tr_model.specs.Laws.{PassesOn}
 use Rattle.tr_model.specs.Tables.{Table}
 use Rattle.tr_model.specs.Journals
 use Rattle.tr_model.specs.Laws
+use Rattle.tr_model.proofs.Among.{occurs-append}
 
 abbrev ending : ℕ → Fate → Ending
 ending n f = record { number = n; fate = f }

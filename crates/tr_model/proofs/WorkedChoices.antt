@@ -10,8 +10,10 @@ use Rattle.tr_model.specs.declared.replies.Did.TheVariants.{Caught}
 use Rattle.tr_model.specs.declared.replies.Reply.TheVariants as reply
 use Rattle.tr_model.specs.declared.rows.Target.TheVariants as target
 use Rattle.std.specs.Prelude.{is_some, ◌||◌}
-use Rattle.tr_model.specs.Steps.{Admits, after, takes, takes_by, takes_instance, gives_report, is_new}
-use Rattle.tr_model.specs.Waits.{ready, ready_thread, ready_death, ready_note}
+use Rattle.tr_model.specs.Steps.{Admits, after, takes, is_new}
+use Rattle.tr_model.specs.Choices.{takes_by, takes_instance, gives_report}
+use Rattle.tr_model.specs.StarterWaits.{ready_death, ready_note}
+use Rattle.tr_model.specs.Waits.{ready, ready_thread}
 use Rattle.tr_model.specs.Journals.{taken}
 use Rattle.tr_model.specs.Runs.{Call}
 use Rattle.tr_model.specs.Sends.{info}

@@ -16,10 +16,11 @@ use Rattle.tr_model.specs.declared.replies.Refusal.{Refusal}
 use Rattle.tr_model.specs.declared.replies.Refusal.TheVariants.{Perm, Srch, Io, Child, Again, Inval, Busy, NotDue, NotRunning, Unmodelled}
 use Rattle.tr_model.specs.declared.replies.Reply.{Reply}
 use Rattle.tr_model.specs.declared.replies.Reply.TheVariants as reply
-use Rattle.tr_model.specs.Requests.{tracees}
+use Rattle.tr_model.specs.Tracers.{tracees}
 use Rattle.tr_model.specs.Tables.{Table, group_of, is_dying, members, others_dead, thread_of}
 use Rattle.tr_model.specs.Takes.{can_take, is_empty}
-use Rattle.tr_model.specs.Waits.{led_groups, ready, ready_for_starter}
+use Rattle.tr_model.specs.StarterWaits.{led_groups, ready_for_starter}
+use Rattle.tr_model.specs.Waits.{ready}
 
 -- The first cause that holds
 

@@ -1,5 +1,5 @@
 -- clone(2) and execve(2): "execve(2) under ptrace" of ptrace(2).
-use Rattle.std.specs.Prelude.{ℕ, pos, not, ◌&&◌, if◌then◌else◌, map, is_some}
+use Rattle.std.specs.Prelude.{ℕ, pos, not, ◌&&◌, if◌then◌else◌, map}
 use Rattle.tr_tracee.specs.declared.life.End.TheVariants.{Exited}
 use Rattle.tr_tracee.specs.declared.life.Stop.TheVariants as stop
 use Rattle.tr_tracee.specs.declared.thread.Thread.{Thread}
@@ -10,20 +10,8 @@ use Rattle.tr_model.specs.declared.fates.Fate.TheVariants.{Flushed}
 use Rattle.tr_model.specs.declared.rows.Group.{Group}
 use Rattle.tr_model.specs.declared.rows.Target.TheVariants as target
 use Rattle.tr_model.specs.Sends.{info, send}
-use Rattle.tr_model.specs.Tables.{others_dead, stop_in_effect}
-use Rattle.tr_model.specs.Moves.{Work, alter, at, become, enqueue, enter, only_group, regroup, spawn, take_place, when}
-
--- Clone
-
--- the parent stops, and an attached child gets a SIGSTOP
-abbrev pub clone_stop : Thread → ℕ → Work → Work
-clone_stop t id w = when (not (seized t.trace)) (enqueue 19 (info (pos 0) 0 (pos 0)) (target.Thread id)) (enter t.id (stop.Clone id) w)
-
--- the new thread has to stop too where a group-stop is in effect; with option clone the parent enters a ptrace-stop
-abbrev pub clone : Thread → ℕ → Work → Work
-clone t id w = when (options_of t.trace).clone (clone_stop t id) (spawn t.id id (is_some (stop_in_effect w.table t.group)) w)
-
--- Exec
+use Rattle.tr_model.specs.Tables.{others_dead}
+use Rattle.tr_model.specs.Moves.{Work, alter, at, become, enter, only_group, regroup, take_place, when}
 
 -- handlers are lost with the old program: caught signals have their default action, ignored ones stay ignored
 abbrev pub with_reset : Group → Group

@@ -1,33 +1,30 @@
 -- The choices that this product makes where the model leaves one, and what a check answers with them.
 use Rattle.std.specs.Prelude.{ℕ, ◌+◌, ◌-◌, zero, suc, List, [], ◌∷◌, Option, Some, None, Result, Ok, Err, if◌then◌else◌}
+use Rattle.std.specs.Option.{option_or}
 use Rattle.tr_pending.specs.declared.instance.Instance.{Instance}
 use Rattle.tr_pending.specs.Waiting.{best_of}
 use Rattle.tr_tracee.specs.declared.thread.Thread.{Thread}
 use Rattle.tr_tracee.specs.Threads.{is_ready_to_take}
 use Rattle.tr_model.specs.declared.checked.Checked.{Checked}
 use Rattle.tr_model.specs.declared.checked.Checked.TheVariants.{Quiet, Due}
-use Rattle.tr_model.specs.declared.events.Choice.{Choice}
+use Rattle.tr_model.specs.Choices.{Choice, gives_id, gives_report, no_choice, takes_by, takes_instance}
 use Rattle.tr_model.specs.declared.events.Event.{Event}
 use Rattle.tr_model.specs.declared.events.Event.TheVariants as event
 use Rattle.tr_model.specs.declared.replies.Refusal.{Refusal}
 use Rattle.tr_model.specs.declared.replies.Reply.{Reply}
 use Rattle.tr_model.specs.declared.rows.Target.TheVariants as target
 use Rattle.tr_model.specs.Causes.{cause_of, quiet_of}
-use Rattle.tr_model.specs.Steps.{gives_id, gives_report, is_new, no_choice, takes_by, takes_instance}
+use Rattle.tr_model.specs.Steps.{is_new}
 use Rattle.tr_model.specs.Tables.{Table, members, queue, thread_of}
 use Rattle.tr_model.specs.Takes.{can_take}
-use Rattle.tr_model.specs.Waits.{ready, ready_for_starter}
+use Rattle.tr_model.specs.StarterWaits.{ready_for_starter}
+use Rattle.tr_model.specs.Waits.{ready}
 
 -- Takes: the own queue before the shared one, the least number first, by the first thread in table order
 
--- the first where there is one, else the second
-abbrev pub or_other : Option Instance → Option Instance → Option Instance
-or_other None j = j
-or_other (Some i) j = Some i
-
 -- a free thread without marks takes the least unblocked number, the earliest of one number, its own queue first
 abbrev pub best_for : Table → Thread → Option Instance
-best_for T t = if is_ready_to_take t then or_other (best_of t.mask (queue T (target.Thread t.id))) (best_of t.mask (queue T (target.Group t.group))) else None
+best_for T t = if is_ready_to_take t then option_or (best_of t.mask (queue T (target.Thread t.id))) (best_of t.mask (queue T (target.Group t.group))) else None
 
 -- Take: the instance by its number; without one there is nothing to choose
 abbrev pub taking : Option Instance → Choice

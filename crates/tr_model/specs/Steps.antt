@@ -7,7 +7,7 @@ use Rattle.tr_tracee.specs.declared.thread.Thread.{Thread}
 use Rattle.tr_tracee.specs.Marks.{masked, paused}
 use Rattle.tr_tracee.specs.Stops.{interrupted, set_options}
 use Rattle.tr_tracee.specs.Threads.{at_thread}
-use Rattle.tr_model.specs.declared.events.Choice.{Choice}
+use Rattle.tr_model.specs.Choices.{Choice, no_choice, takes_instance, takes_by, gives_report, gives_id}
 use Rattle.tr_model.specs.declared.events.Entry.{Entry}
 use Rattle.tr_model.specs.declared.events.Event.{Event}
 use Rattle.tr_model.specs.declared.events.Event.TheVariants as event
@@ -20,40 +20,25 @@ use Rattle.tr_model.specs.declared.rows.Group.{Group}
 use Rattle.tr_model.specs.declared.rows.Target.TheVariants as target
 use Rattle.tr_model.specs.Causes.{cause_of, is_in, quiet_of}
 use Rattle.tr_model.specs.Ends
+use Rattle.tr_model.specs.Clones
 use Rattle.tr_model.specs.Execs
 use Rattle.tr_model.specs.GroupStops.{complete_group_stops}
-use Rattle.tr_model.specs.Requests
+use Rattle.tr_model.specs.Restarts
+use Rattle.tr_model.specs.Tracers
+use Rattle.tr_model.specs.Tracing
 use Rattle.tr_model.specs.Sends
 use Rattle.tr_model.specs.Sends.{info}
 use Rattle.tr_model.specs.Stops
 use Rattle.tr_model.specs.Tables.{Table, group_of, thread_of}
 use Rattle.tr_model.specs.Takes
 use Rattle.tr_model.specs.Takes.{choices, with_number}
+use Rattle.tr_model.specs.StarterWaits
 use Rattle.tr_model.specs.Waits
-use Rattle.tr_model.specs.Waits.{ready_death, ready_note, ready_thread}
+use Rattle.tr_model.specs.StarterWaits.{ready_death, ready_note}
+use Rattle.tr_model.specs.Waits.{ready_thread}
 use Rattle.tr_model.specs.Moves.{Work, alter, at, begin, instance_in, on_thread}
 
 -- Free choices
-
--- the choice of an event that leaves nothing open
-abbrev pub no_choice : Choice
-no_choice = record { thread = None; instance = None; report = None; new_id = None }
-
--- Take: which instance
-abbrev pub takes_instance : ℕ → Choice
-takes_instance n = record { thread = None; instance = Some n; report = None; new_id = None }
-
--- TakeAny: which thread takes, and which instance
-abbrev pub takes_by : ℕ → ℕ → Choice
-takes_by id n = record { thread = Some id; instance = Some n; report = None; new_id = None }
-
--- a wait: which report
-abbrev pub gives_report : ℕ → Choice
-gives_report r = record { thread = None; instance = None; report = Some r; new_id = None }
-
--- clone(2): the id of the new thread
-abbrev pub gives_id : ℕ → Choice
-gives_id id = record { thread = None; instance = None; report = None; new_id = Some id }
 
 -- the thread is in the table and can take the instance with this number
 abbrev pub takes : Table → Option Thread → ℕ → Bool
@@ -93,23 +78,23 @@ work_of_event a (event.TakeAny g) c w = at (number c.thread) (Takes.take_numbere
 work_of_event a (event.Halt id) c w = at id Stops.halt w
 work_of_event a (event.Trap id) c w = at id Stops.trap w
 work_of_event a (event.Die id) c w = at id (λ t. Ends.die t t.life) w
-work_of_event a (event.CloneThread id) c w = at id (λ t. Execs.clone t (number c.new_id)) w
+work_of_event a (event.CloneThread id) c w = at id (λ t. Clones.clone t (number c.new_id)) w
 work_of_event a (event.Exec id) c w = at id Execs.exec w
 work_of_event a (event.Finish id) c w = at id Execs.finish w
 work_of_event a (event.Exit id code) c w = at id (λ t. Ends.exit t code) w
 work_of_event a (event.ExitGroup id code) c w = at id (Ends.exit_group code) w
-work_of_event a (event.Attach id) c w = at id (Requests.attach a) w
-work_of_event a (event.Seize id o) c w = at id (Requests.seize a o) w
+work_of_event a (event.Attach id) c w = at id (Tracing.attach a) w
+work_of_event a (event.Seize id o) c w = at id (Tracing.seize a o) w
 work_of_event a (event.Interrupt id) c w = alter (at_thread id interrupted) w
-work_of_event a (event.Cont id s) c w = at id (Requests.restart s) w
-work_of_event a (event.Listen id) c w = at id Requests.listen w
-work_of_event a (event.Detach id s) c w = at id (Requests.detach s) w
+work_of_event a (event.Cont id s) c w = at id (Restarts.restart s) w
+work_of_event a (event.Listen id) c w = at id Restarts.listen w
+work_of_event a (event.Detach id s) c w = at id (Restarts.detach s) w
 work_of_event a (event.SetOptions id o) c w = alter (at_thread id (set_options o)) w
 work_of_event a (event.EventMessage id) c w = w
 work_of_event a (event.SignalInfo id) c w = w
-work_of_event a event.TracerExit c w = Requests.tracer_exit a w
+work_of_event a event.TracerExit c w = Tracers.tracer_exit a w
 work_of_event a (event.Wait which) c w = on_thread (ready_thread w.table a which (number c.report)) Waits.consume w
-work_of_event a (event.StarterWait which flags) c w = Waits.starter_takes (ready_death w.table which (number c.report)) (ready_note w.table which flags (number c.report)) w
+work_of_event a (event.StarterWait which flags) c w = StarterWaits.starter_takes (ready_death w.table which (number c.report)) (ready_note w.table which flags (number c.report)) w
 
 -- all that an entry does to a table
 abbrev pub work_of : Table → Entry → Work

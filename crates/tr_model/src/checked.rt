@@ -1,4 +1,4 @@
-use crate::events::Choice;
+use crate::choices::Choice;
 use crate::replies::Reply;
 
 /// What a check finds of an event that isn't refused.

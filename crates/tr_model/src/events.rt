@@ -1,3 +1,4 @@
+use crate::choices::Choice;
 use tr_group::Action;
 use tr_sigset::SigSet;
 use tr_tracee::Options;
@@ -62,30 +63,6 @@ pub enum Event {
     Wait { which: Which },
     /// The starter's waitpid(2) with `WNOHANG`. The starter, actor 1, is the parent of all groups.
     StarterWait { which: Which, flags: WaitFlags },
-}
-
-/// What an entry chose where the model leaves it free: the instance of a take, thread and instance of a take by any
-/// thread, the report of a wait, the id of a clone. The other fields are None.
-#[derive(Clone, Copy, Debug, PartialEq, Eq)]
-pub struct Choice {
-    /// The thread that a take by any thread of a group fell to.
-    pub thread: Option<u32>,
-    /// The number of the instance that was taken.
-    pub instance: Option<u64>,
-    /// The number of the report that a wait consumed.
-    pub report: Option<u64>,
-    /// The id that a clone gave.
-    pub new_id: Option<u32>,
-}
-
-impl Choice {
-    /// The choice of an event that leaves nothing open.
-    pub const NONE: Choice = Choice {
-        thread: None,
-        instance: None,
-        report: None,
-        new_id: None,
-    };
 }
 
 /// An entry of the journal: one step.

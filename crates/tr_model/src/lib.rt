@@ -2,22 +2,33 @@
 #![tactic(auto)]
 
 mod checked;
+mod choices;
+mod compare;
 mod events;
 mod fates;
 mod journals;
 mod laws;
+mod limits;
 mod raises;
 mod replies;
 mod rows;
+mod sameness;
 
 pub use checked::Checked;
-pub use events::{Choice, Entry, Event};
+pub use choices::Choice;
+pub use compare::{
+    answers_determine, one_test_decides, replies_are_foreseen, replies_tell_the_choice,
+    verdicts_are_determined,
+};
+pub use events::{Entry, Event};
 pub use fates::{Ending, Fate, Totals};
 pub use journals::{
     a_restart_stands_between, each_report_has_one_wait, each_signal_has_one_fate,
     first_accepted_first_taken, tables_are_sound, the_killed_only_die,
 };
 pub use laws::{causes_are_causes, nothing_is_exact, preferred_is_admitted, steps_are_determined};
+pub use limits::{GREATEST_ID, MOST_MEMBERS, MOST_THREADS};
 pub use raises::Raise;
 pub use replies::{Did, Refusal, Reply};
 pub use rows::{Group, Name, Target, Waiting};
+pub use sameness::Same;

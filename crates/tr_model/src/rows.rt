@@ -3,7 +3,7 @@ use tr_pending::Instance;
 use tr_tracee::{End, Report};
 
 /// Whose queue: a thread's own, or a group's shared one.
-#[derive(Clone, Copy, Debug, PartialEq, Eq)]
+#[derive(Clone, Copy, Debug, PartialEq, Eq, Hash)]
 pub enum Target {
     /// The own queue of the thread with this id: tgkill(2).
     Thread(u32),

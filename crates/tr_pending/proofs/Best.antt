@@ -2,15 +2,13 @@
 use Rattle.std.proofs.Common.{◌≡◌, ◌≢◌, ℕ, suc, ◌+◌, ◌<◌, ◌≤◌, Bool, true, false, if◌then◌else◌, not, ◌&&◌, ◌||◌, ◌==◌, nat_le, List, [], ◌∷◌, Option, Some, None, refl, sym, ap, ◌∙◌, arith, slice_get, inl, inr, subst}
 use Rattle.std.proofs.lemmas.Bool.{cases_lt}
 use Rattle.std.proofs.lemmas.Bool.Decides.{nat_tests, eqb_tells}
+use Rattle.std.proofs.lemmas.Option.{same_Some}
 use Rattle.tr_sigset.specs.Sets.{has}
 use Rattle.tr_sigset.specs.declared.sets.SigSet.{SigSet}
 use Rattle.tr_pending.specs.Waiting.{best_of, first_of, is_waiting, IsMask, place_of, preferred_of}
 use Rattle.tr_pending.specs.declared.instance.Instance.{Instance}
 
 -- tests and options
-
-same_instance : (x y : Instance) → Some x ≡ Some y → x ≡ y
-same_instance x y e = cc
 
 itself : (n : ℕ) → (n == n) ≡ true
 itself n = grind (arith, nat_tests)
@@ -69,8 +67,8 @@ module _ (blocked : SigSet) where
 
   ready_step : (b : Bool) (m : Option Instance) (x j : Instance) (q : List Instance) → has blocked x.sig ≡ b → best_with b x m ≡ Some j → ((k : Instance) → m ≡ Some k → IsReady k q) → IsReady j (x ∷ q)
   ready_step true m x j q e best rest = later x j q (rest j best)
-  ready_step false None x j q e best rest = here x j q (same_instance x j best) e
-  ready_step false (Some k) x j q e best rest = ready_choice (nat_le x.sig k.sig) x k j q (same_instance _ j best) e (rest k refl)
+  ready_step false None x j q e best rest = here x j q (same_Some x j best) e
+  ready_step false (Some k) x j q e best rest = ready_choice (nat_le x.sig k.sig) x k j q (same_Some _ j best) e (rest k refl)
 
   best_ready : (q : List Instance) (j : Instance) → best_of blocked q ≡ Some j → IsReady j q
   best_ready [] j best = cc

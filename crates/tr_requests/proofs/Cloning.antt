@@ -1,5 +1,5 @@
 -- A clone that is due, and its place in the table.
-use Rattle.std.proofs.Common.{◌≡◌, ◌∙◌, ℕ, ◌<◌, ◌≤◌, ◌&&◌, ◌||◌, ◌++◌, List, [], ◌∷◌, Bool, true, false, not, Option, Some, None, Result, Ok, Err, if◌then◌else◌, is_some, length, nat_le, refl, sym, ap, arith}
+use Rattle.std.proofs.Common.{◌≡◌, ◌∙◌, ℕ, ◌<◌, ◌&&◌, ◌||◌, ◌++◌, List, [], ◌∷◌, Bool, true, false, not, Option, Some, None, Result, Ok, Err, if◌then◌else◌, is_some, length, nat_le, refl, subst, sym, ap}
 use Rattle.std.proofs.lemmas.Bool.{and_parts, leb-false, or_parts}
 use Rattle.tr_tracee.specs.declared.thread.Thread.{Thread}
 use Rattle.tr_tracee.specs.Ends.{child}
@@ -7,55 +7,49 @@ use Rattle.tr_tracee.specs.Lives.{is_free}
 use Rattle.tr_tracee.specs.Threads.{has_mark}
 use Rattle.tr_model.specs.declared.checked.Checked.{Checked}
 use Rattle.tr_model.specs.declared.checked.Checked.TheVariants.{Due}
-use Rattle.tr_model.specs.declared.events.Choice.{Choice}
+use Rattle.tr_model.specs.Choices.{Choice, gives_id}
 use Rattle.tr_model.specs.declared.events.Event.TheVariants.{CloneThread}
 use Rattle.tr_model.specs.declared.replies.Refusal.{Refusal}
-use Rattle.tr_model.specs.declared.replies.Refusal.TheVariants.{Again, Busy, NotRunning, Srch}
+use Rattle.tr_model.specs.declared.replies.Refusal.TheVariants.{Again, Busy, NotRunning}
+use Rattle.tr_model.specs.Compare.{Permits}
 use Rattle.tr_model.specs.Causes.{at_limit, first_cause, refused_if, script, thread_then, unless}
 use Rattle.std.specs.Prelude.{OnOk}
 use Rattle.tr_model.specs.Moves.{added, begin, on_thread, spawn, spawned}
-use Rattle.tr_model.proofs.FreeIds.{new_id_is_new}
 use Rattle.tr_model.specs.Preferred.{check, clone_choice, new_id, quiet_or, refused_or}
-use Rattle.tr_model.specs.Steps.{gives_id, is_new, number}
+use Rattle.tr_model.specs.Steps.{is_new, number}
 use Rattle.tr_model.specs.Tables.{Table, group_of, members, thread_of}
 use Rattle.tr_model.specs.Takes.{can_take}
-use Rattle.tr_requests.proofs.Restarting.{refused_due}
 
 pub record IsClone (T : Table) (tid id : ℕ) : Type 0 where
   pub thread : Thread
   pub there : thread_of T tid ≡ Some thread
   pub free : is_free thread.life ≡ true
-  pub few : length T.threads < 1024
   pub place : length (members T thread.group) < 64
-  pub new : id ≡ new_id T thread.group
+  pub new : is_new T id ≡ true
 
-given : (a b : ℕ) → gives_id a ≡ gives_id b → a ≡ b
-given a b e = ap (λ c. number c.new_id) e
-
-same_choice : (a b : Choice) → ◌≡◌ {A = Result Checked Refusal} (Ok (Due a)) (Ok (Due b)) → a ≡ b
-same_choice a b e = cc
-
-pub is_clone : (T : Table) (a tid id : ℕ) → check T a (CloneThread tid) ≡ Ok (Due (gives_id id)) → IsClone T tid id
-is_clone T a tid id e = go (thread_of T tid) refl e
+pub is_clone : (T : Table) (a tid id : ℕ) → Permits T a (CloneThread tid) (gives_id id) → IsClone T tid id
+is_clone T a tid id p = go (thread_of T tid) refl p.no_cause
   where
+    fresh : is_new T id ≡ true
+    fresh = let h = p.admitted in subst (λ k. is_new T k ≡ true) (sym (ap (λ (c : Choice). number c.new_id) h.1)) h.2
+
     by : (t : Thread) → thread_of T tid ≡ Some t → (x y z : Bool) → (is_free t.life && not t.pausing) ≡ x → at_limit T t ≡ z
-        → refused_or (first_cause (unless x NotRunning ∷ refused_if y Busy ∷ refused_if z Again ∷ [])) (quiet_or None (gives_id (new_id T t.group))) ≡ Ok (Due (gives_id id)) → IsClone T tid id
-    by t h false y z f g q = absurd (refused_due NotRunning (gives_id id) q)
-    by t h true true z f g q = absurd (refused_due Busy (gives_id id) q)
-    by t h true false true f g q = absurd (refused_due Again (gives_id id) q)
+        → first_cause (unless x NotRunning ∷ refused_if y Busy ∷ refused_if z Again ∷ []) ≡ None → IsClone T tid id
+    by t h false y z f g q = cc
+    by t h true true z f g q = cc
+    by t h true false true f g q = cc
     by t h true false false f g q =
         let few = or_parts (nat_le 1024 (length T.threads)) (nat_le 64 (length (members T t.group))) g in
         record {
           thread = t;
           there = h;
           free = (and_parts (is_free t.life) (not t.pausing) f).0;
-          few = leb-false 1024 (length T.threads) few.0;
           place = leb-false 64 (length (members T t.group)) few.1;
-          new = sym (given (new_id T t.group) id (same_choice (gives_id (new_id T t.group)) (gives_id id) q));
+          new = fresh;
         }
 
-    go : (o : Option Thread) → thread_of T tid ≡ o → refused_or (first_cause (thread_then o (λ t. script T t ++ refused_if (at_limit T t) Again ∷ []))) (quiet_or None (clone_choice T o)) ≡ Ok (Due (gives_id id)) → IsClone T tid id
-    go None h q = absurd (refused_due Srch (gives_id id) q)
+    go : (o : Option Thread) → thread_of T tid ≡ o → first_cause (thread_then o (λ t. script T t ++ refused_if (at_limit T t) Again ∷ [])) ≡ None → IsClone T tid id
+    go None h q = cc
     go (Some t) h q = by t h (is_free t.life && not t.pausing) (has_mark t || can_take T t) (at_limit T t) refl refl q
 
 -- a look-up has one answer
@@ -107,9 +101,6 @@ due_with_id T a tid t e h k =
 pub none_script : (o : Option Refusal) → ((why : Refusal) → o ≡ Some why → ⊥) → o ≡ None
 none_script None h = refl
 none_script (Some why) h = absurd (h why refl)
-
-pub is_new_id : (T : Table) (tid id : ℕ) → length T.groups ≤ 1024 → (d : IsClone T tid id) → thread_of T id ≡ None
-is_new_id T tid id h d = no_thread T id (rw d.new (new_id_is_new T d.thread.group (let k = d.few in omega (arith, h, k))))
 
 -- what the model makes of it
 pub spawns : (T : Table) (tid id : ℕ) (mark : Bool) (t : Thread) → thread_of T tid ≡ Some t → thread_of T t.id ≡ Some t → is_free t.life ≡ true

@@ -10,8 +10,8 @@ use Rattle.tr_model.specs.declared.replies.Reply.TheVariants.{Nothing}
 use Rattle.tr_model.specs.Causes.{nothing_where}
 use Rattle.tr_model.specs.Takes.{is_empty}
 use Rattle.tr_model.specs.Preferred.{check, quiet_or}
-use Rattle.tr_model.specs.Requests.{tracees}
-use Rattle.tr_model.specs.Steps.{no_choice}
+use Rattle.tr_model.specs.Tracers.{tracees}
+use Rattle.tr_model.specs.Choices.{no_choice}
 use Rattle.tr_model.specs.Tables.{Table}
 use Rattle.tr_requests.proofs.Firsts.{any_is_left}
 use Rattle.tr_requests.specs.Private.{to_kill_among, tracees_among}

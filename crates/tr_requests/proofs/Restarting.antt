@@ -7,14 +7,13 @@ use Rattle.tr_pending.specs.declared.instance.Instance.{Instance}
 use Rattle.tr_tracee.specs.declared.thread.Thread.{Thread}
 use Rattle.tr_tracee.specs.Lives.{held}
 use Rattle.tr_model.specs.declared.checked.Checked.TheVariants.{Due}
-use Rattle.tr_model.specs.declared.events.Choice.{Choice}
+use Rattle.tr_model.specs.Choices.{Choice, no_choice}
 use Rattle.tr_model.specs.declared.replies.Refusal.{Refusal}
 use Rattle.tr_model.specs.declared.replies.Refusal.TheVariants.{Io, Srch}
 use Rattle.tr_model.specs.Causes.{cause_unless_stopped, first_cause, refused_if, thread_then, unless}
 use Rattle.tr_model.specs.Moves.{Work, at, on_thread}
 use Rattle.tr_model.specs.Preferred.{quiet_or, refused_or}
-use Rattle.tr_model.specs.Requests.{restart, restart_held}
-use Rattle.tr_model.specs.Steps.{no_choice}
+use Rattle.tr_model.specs.Restarts.{restart, restart_held}
 use Rattle.tr_model.specs.Tables.{Table, thread_of}
 use Rattle.tr_requests.specs.Private.{restart_by, restart_checked, restart_from}
 

@@ -5,9 +5,9 @@ use Rattle.tr_model.specs.Ends.{pass_on, remove_thread, word_of_end}
 use Rattle.tr_model.specs.Execs.{break_others, trap_new}
 use Rattle.tr_model.specs.Moves.{Work, alter, enqueue, enter}
 use Rattle.tr_model.specs.Preferred.{quiet_or, refused_or}
-use Rattle.tr_model.specs.Requests.{inject, resume, untrace}
+use Rattle.tr_model.specs.Restarts.{inject, resume, untrace}
 use Rattle.tr_model.specs.Sends.{info, send}
-use Rattle.tr_model.specs.Steps.{gives_report, no_choice}
+use Rattle.tr_model.specs.Choices.{gives_report, no_choice}
 use Rattle.tr_model.specs.Tables.{Table, thread_of}
 use Rattle.tr_model.specs.Takes.{act_on}
 use Rattle.tr_model.specs.declared.checked.Checked.{Checked}

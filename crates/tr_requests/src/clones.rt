@@ -1,19 +1,19 @@
 //! How a thread makes a thread of its group: clone(2) with `CLONE_THREAD`, and "PTRACE_EVENT_CLONE" of ptrace(2).
 
-ghost use Rattle.std.specs.Prelude.{◌≡◌, ◌≤◌, ℕ, IfOk, Ok, OnErr, not};
+ghost use Rattle.std.specs.Prelude.{◌≡◌, ◌≤◌, ℕ, IfOk, OnErr, not};
 ghost use Rattle.tr_tracee.specs.Threads.{options_of, seized};
-ghost use Rattle.tr_model.specs.declared.checked.Checked.TheVariants.{Due};
+ghost use Rattle.tr_model.specs.Compare.{Permits};
 ghost use Rattle.tr_model.specs.declared.events.Event.TheVariants.{CloneThread};
 ghost use Rattle.tr_model.specs.Causes.{at_limit};
-ghost use Rattle.tr_model.specs.Execs.{clone_stop};
+ghost use Rattle.tr_model.specs.Clones.{clone_stop};
 ghost use Rattle.tr_model.specs.Moves.{when};
 ghost use Rattle.tr_model.specs.Preferred.{check};
-ghost use Rattle.tr_model.specs.Steps.{gives_id};
+ghost use Rattle.tr_model.specs.Choices.{gives_id};
 ghost use Rattle.tr_steps.specs.UnderWay.{IsStepOf, Moves};
 ghost use Rattle.tr_requests.specs.Private.{stop_child};
 
 use std::alloc::AllocError;
-use tr_model::{Checked, Choice, Refusal, Reply, Target};
+use tr_model::{Checked, Choice, MOST_MEMBERS, MOST_THREADS, Refusal, Reply, Target};
 use tr_pending::Info;
 use tr_signals::script;
 use tr_sigset::Signal;
@@ -25,16 +25,7 @@ use tr_tracee::{Stop, Thread};
 fn is_at_limit(table: &Table, thread: &Thread) -> bool
     ensures { result ≡ at_limit table.now.table thread.now }
 {
-    table.thread_count() >= 1024 || table.member_count(thread.group) >= 64
-}
-
-fn giving_id(id: u32) -> Choice
-    ensures { result ≡ gives_id id }
-{
-    Choice {
-        new_id: Some(id),
-        ..Choice::NONE
-    }
+    table.thread_count() >= MOST_THREADS || table.member_count(thread.group) >= MOST_MEMBERS
 }
 
 /// Whether a thread's clone(2) is refused or due: ESRCH, NotRunning and Busy as for each operation of a thread's own, then
@@ -52,7 +43,7 @@ pub fn check_clone_thread(table: &Table, tid: u32) -> Result<Checked, Refusal>
     if is_at_limit(table, thread) {
         return Err(Refusal::Again);
     }
-    Ok(Checked::Due(giving_id(table.free_id(thread.group))))
+    Ok(Checked::Due(Choice::of_new_id(table.free_id(thread.group))))
 }
 
 fn stop_child(step: &mut Step, id: u32)
@@ -94,11 +85,11 @@ fn clone_stop_where(step: &mut Step, thread: &Thread, id: u32)
     }
 }
 
-/// A clone(2) that is due: a thread with this id comes last in the table, with the thread's mask and an empty queue. With
-/// option clone it is traced as the thread is, which stops. Where memory is refused, or the numbers are used up, nothing
-/// has changed.
+/// A clone(2) that is due: a thread with this id, which is any new one, comes last in the table, with the thread's mask
+/// and an empty queue. With option clone it is traced as the thread is, which stops. Where memory is refused, or the
+/// numbers are used up, nothing has changed.
 pub fn clone_thread(step: &mut Step, actor: u32, tid: u32, id: u32) -> Result<Reply, AllocError>
-    requires due { check step.old.work.table actor (CloneThread tid) ≡ Ok (Due (gives_id id)) }
+    requires due { Permits step.old.work.table actor (CloneThread tid) (gives_id id) }
     ensures did { IfOk result (IsStepOf step.old.work.table (record { actor = actor; event = CloneThread tid; choice = gives_id id }) step.new) }
     ensures err { OnErr result (step.new.work.table ≡ step.old.work.table) }
 {

@@ -7,7 +7,7 @@ ghost use Rattle.tr_model.specs.declared.events.Event.TheVariants.{Die, Exit, Ex
 ghost use Rattle.tr_model.specs.Ends.{bury, die, die_and_flush, end_of_dead, exit, exit_group, exited, last_death, pass_on, remove_thread, report_if_last, report_leader, reported_end, word_of_end};
 ghost use Rattle.tr_model.specs.Moves.{at, report_death};
 ghost use Rattle.tr_model.specs.Preferred.{check};
-ghost use Rattle.tr_model.specs.Steps.{no_choice};
+ghost use Rattle.tr_model.specs.Choices.{no_choice};
 ghost use Rattle.tr_steps.specs.UnderWay.{IsStepOf, Moves, entry};
 ghost use Rattle.tr_requests.specs.Private.{leave_or_stop};
 

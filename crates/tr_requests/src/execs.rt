@@ -7,7 +7,7 @@ ghost use Rattle.tr_model.specs.declared.events.Event.TheVariants.{Exec, Finish}
 ghost use Rattle.tr_model.specs.Execs.{exec, finish, new_program, trap_new};
 ghost use Rattle.tr_model.specs.Moves.{at};
 ghost use Rattle.tr_model.specs.Preferred.{check};
-ghost use Rattle.tr_model.specs.Steps.{no_choice};
+ghost use Rattle.tr_model.specs.Choices.{no_choice};
 ghost use Rattle.tr_model.specs.Tables.{others_dead};
 ghost use Rattle.tr_steps.specs.UnderWay.{IsStepOf, Moves, entry};
 ghost use Rattle.tr_requests.specs.Private.{send_trap, stop_or_trap, wait_for_others};

@@ -1,14 +1,14 @@
 //! Waits of the starter of all groups: waitpid(2).
 
-ghost use Rattle.std.specs.Prelude.{◌≡◌, ◌&&◌, [], if◌then◌else◌, IfOk, Ok, OnErr, filter, flat_map, is_some, not, option_copied};
+ghost use Rattle.std.specs.Prelude.{◌≡◌, ◌&&◌, [], if◌then◌else◌, IfOk, OnErr, filter, flat_map, is_some, not, option_copied};
 ghost use Rattle.std.specs.List.{list_any};
 ghost use Rattle.tr_wait.specs.Words.{asks_for};
-ghost use Rattle.tr_model.specs.declared.checked.Checked.TheVariants.{Due};
+ghost use Rattle.tr_model.specs.Compare.{Permits};
 ghost use Rattle.tr_model.specs.declared.events.Event.TheVariants.{StarterWait};
 ghost use Rattle.tr_model.specs.Preferred.{check};
-ghost use Rattle.tr_model.specs.Steps.{gives_report};
+ghost use Rattle.tr_model.specs.Choices.{gives_report};
 ghost use Rattle.tr_model.specs.Tables.{has_traced, thread_of};
-ghost use Rattle.tr_model.specs.Waits.{consume_note, death_number, has_death, note_number, note_wanted, ready_of_group, shows_note, starter_takes, wanted, with_death, with_note};
+ghost use Rattle.tr_model.specs.StarterWaits.{consume_note, death_number, has_death, note_number, note_wanted, ready_of_group, shows_note, starter_takes, wanted, with_death, with_note};
 ghost use Rattle.tr_steps.specs.UnderWay.{IsStepOf, Moves};
 ghost use Rattle.tr_requests.specs.Private.{first_number, led_among};
 
@@ -80,7 +80,7 @@ fn is_note_wanted(flags: WaitFlags, note: &Option<Report>) -> bool
 fn is_note_shown(table: &Table, flags: WaitFlags, group: &Group) -> bool
     ensures { result ≡ (not (has_traced table.now.table group.now.tgid) && note_wanted flags group.now.note) }
 {
-    !table.has_traced(group.tgid) && is_note_wanted(flags, &group.note)
+    is_note_wanted(flags, &group.note) && !table.has_traced(group.tgid)
 }
 
 fn note_of(table: &Table, flags: WaitFlags, group: &Group) -> Option<u64>
@@ -119,7 +119,7 @@ fn first_for_starter(table: &Table, groups: &[Group], which: Which, flags: WaitF
 }
 
 /// The first dead leader of the groups that the starter asks for that has the report of this number.
-fn ready_death<'a>(
+pub(crate) fn ready_death<'a>(
     table: &'a Table,
     groups: &[Group],
     which: Which,
@@ -143,7 +143,7 @@ fn shows_note(table: &Table, which: Which, flags: WaitFlags, group: &Group) -> b
 }
 
 /// The first of the groups that the starter asks for that has the note of this number.
-fn ready_note<'a>(
+pub(crate) fn ready_note<'a>(
     table: &Table,
     groups: &'a [Group],
     which: Which,
@@ -206,7 +206,7 @@ pub fn starter_wait(
     flags: WaitFlags,
     r: u64,
 ) -> Result<Reply, AllocError>
-    requires due { check step.old.work.table actor (StarterWait which flags) ≡ Ok (Due (gives_report r)) }
+    requires due { Permits step.old.work.table actor (StarterWait which flags) (gives_report r) }
     ensures did { IfOk result (IsStepOf step.old.work.table (record { actor = actor; event = StarterWait which flags; choice = gives_report r }) step.new) }
     ensures err { OnErr result (step.new.work.table ≡ step.old.work.table) }
 {

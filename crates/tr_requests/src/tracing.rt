@@ -6,8 +6,8 @@ ghost use Rattle.tr_model.specs.declared.events.Event.TheVariants.{Attach, Inter
 ghost use Rattle.tr_model.specs.Causes.{cause_unless_stopped, traceable};
 ghost use Rattle.tr_model.specs.Moves.{at};
 ghost use Rattle.tr_model.specs.Preferred.{check};
-ghost use Rattle.tr_model.specs.Requests.{attach, seize, trace};
-ghost use Rattle.tr_model.specs.Steps.{no_choice};
+ghost use Rattle.tr_model.specs.Tracing.{attach, seize, trace};
+ghost use Rattle.tr_model.specs.Choices.{no_choice};
 ghost use Rattle.tr_steps.specs.UnderWay.{IsStepOf, Moves, entry};
 ghost use Rattle.tr_requests.specs.Private.{attach_checked, attach_sends};
 

@@ -1,14 +1,12 @@
 //! Waits of a tracer: waitpid(2) with `__WALL`, and "Death under ptrace" of ptrace(2).
 
-ghost use Rattle.std.specs.Prelude.{◌≡◌, ◌≤◌, ◌&&◌, IfOk, None, Ok, OnErr, filter, flat_map, option_copied};
-ghost use Rattle.std.specs.List.{list_any};
-ghost use Rattle.tr_wait.specs.Words.{asks_for};
-ghost use Rattle.tr_tracee.specs.Threads.{is_tracee_of};
-ghost use Rattle.tr_model.specs.declared.checked.Checked.TheVariants.{Due};
+ghost use Rattle.std.specs.Prelude.{◌≡◌, ◌≤◌, IfOk, None, OnErr, flat_map, option_copied};
+ghost use Rattle.tr_model.specs.Compare.{Permits};
 ghost use Rattle.tr_model.specs.declared.events.Event.TheVariants.{Wait};
 ghost use Rattle.tr_model.specs.Moves.{on_thread};
 ghost use Rattle.tr_model.specs.Preferred.{check};
-ghost use Rattle.tr_model.specs.Steps.{gives_report, waited, waited_note, waited_thread};
+ghost use Rattle.tr_model.specs.Steps.{waited, waited_note, waited_thread};
+ghost use Rattle.tr_model.specs.Choices.{gives_report};
 ghost use Rattle.tr_model.specs.Waits.{consume, has_report, report_number, with_report};
 ghost use Rattle.tr_steps.specs.UnderWay.{IsStepOf, Moves};
 ghost use Rattle.tr_requests.specs.Private.{consume_death, due_report, first_number};
@@ -27,10 +25,7 @@ pub(crate) fn giving(ready: Option<u64>) -> Checked
     ensures { result ≡ due_report ready }
 {
     match ready {
-        Some(number) => Checked::Due(Choice {
-            report: Some(number),
-            ..Choice::NONE
-        }),
+        Some(number) => Checked::Due(Choice::of_report(number)),
         None => Checked::Quiet(Reply::Nothing),
     }
 }
@@ -53,45 +48,21 @@ pub(crate) fn is_numbered(report: &Option<Report>, number: u64) -> bool
     }
 }
 
-fn is_asked(thread: &Thread, actor: u32, which: Which) -> bool
-    ensures { result ≡ (is_tracee_of actor thread.now && asks_for which thread.now.id) }
-{
-    thread.is_tracee_of(actor) && which.asks_for(thread.id)
-}
-
-fn has_asked(threads: &[Thread], actor: u32, which: Which) -> bool
-    ensures { result ≡ list_any (λ t. asks_for which t.id) (filter (is_tracee_of actor) threads.now) }
-{
-    threads
-        .iter()
-        .filter(|t| t.is_tracee_of(actor))
-        .any(|t| which.asks_for(t.id))
-}
-
 /// The first report, in table order, of the actor's tracees that it asks for.
-fn first_ready(threads: &[Thread], actor: u32, which: Which) -> Option<u64>
-    ensures { result ≡ first_number (flat_map (λ t. report_number t.report) (asked_among threads.now actor which)) }
+#[tactic(auto, using(crate::proofs::Firsts::first_reported))]
+fn first_ready(table: &Table, actor: u32, which: Which) -> Option<u64>
+    ensures { result ≡ first_number (flat_map (λ t. report_number t.report) (asked_among table.now.table.threads actor which)) }
 {
-    for thread in threads {
-        if is_asked(thread, actor, which) {
-            if let Some(report) = &thread.report {
-                return Some(report.number);
-            }
-        }
-    }
-    None
+    let thread = table.reported(actor, which, None)?;
+    number_of(&thread.report)
 }
 
 /// The first of the actor's tracees that it asks for that has the report of this number.
-pub fn ready_thread(threads: &[Thread], actor: u32, which: Which, number: u64) -> Option<&Thread>
-    ensures { option_copied result ≡ with_report (asked_among threads.now actor which) number }
+#[tactic(auto, using(crate::proofs::Firsts::with_number))]
+pub fn ready_thread(table: &Table, actor: u32, which: Which, number: u64) -> Option<&Thread>
+    ensures { option_copied result ≡ with_report (asked_among table.now.table.threads actor which) number }
 {
-    for thread in threads {
-        if is_asked(thread, actor, which) && is_numbered(&thread.report, number) {
-            return Some(thread);
-        }
-    }
-    None
+    table.reported(actor, which, Some(number))
 }
 
 /// Whether a wait of a tracer is refused, answered Nothing, or due with the first report in table order. ECHILD comes
@@ -99,10 +70,10 @@ pub fn ready_thread(threads: &[Thread], actor: u32, which: Which, number: u64) -
 pub fn check_wait(table: &Table, actor: u32, which: Which) -> Result<Checked, Refusal>
     ensures { result ≡ check table.now.table actor (Wait which) }
 {
-    if !has_asked(table.threads(), actor, which) {
+    if !table.has_asked(actor, which) {
         return Err(Refusal::Child);
     }
-    Ok(giving(first_ready(table.threads(), actor, which)))
+    Ok(giving(first_ready(table, actor, which)))
 }
 
 /// What a wait that gives a report of this thread or group tells.
@@ -174,11 +145,11 @@ fn consume_some(step: &mut Step, thread: &Option<Thread>)
 /// gone then. A death that is told takes the thread out of the table, but a leader stays for the starter, who is told
 /// next. Where memory is refused, or the numbers are used up, nothing has changed.
 pub fn wait(step: &mut Step, actor: u32, which: Which, r: u64) -> Result<Reply, AllocError>
-    requires due { check step.old.work.table actor (Wait which) ≡ Ok (Due (gives_report r)) }
+    requires due { Permits step.old.work.table actor (Wait which) (gives_report r) }
     ensures did { IfOk result (IsStepOf step.old.work.table (record { actor = actor; event = Wait which; choice = gives_report r }) step.new) }
     ensures err { OnErr result (step.new.work.table ≡ step.old.work.table) }
 {
-    let thread = ready_thread(step.table().threads(), actor, which, r).copied();
+    let thread = ready_thread(step.table(), actor, which, r).copied();
     let reply = waited_thread(&thread, &None);
     step.begin(1)?;
     consume_some(step, &thread);

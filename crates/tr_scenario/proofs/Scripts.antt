@@ -1,5 +1,5 @@
 -- Steps and the scripts of their actors.
-use Rattle.std.proofs.Common.{◌≡◌, ◌∙◌, ◌==◌, ◌≤◌, ◌<◌, ◌+◌, ℕ, zero, suc, Bool, List, [], ◌∷◌, ◌++◌, true, false, ap, sym, refl, length, arith, Some, None, Result, Ok, Err, inr, get_or, slice_set, drop, map}
+use Rattle.std.proofs.Common.{◌≡◌, ◌∙◌, ◌==◌, ◌≤◌, ◌<◌, ◌+◌, ℕ, zero, suc, Bool, List, [], ◌∷◌, ◌++◌, true, false, ap, sym, refl, length, arith, Some, None, Result, Ok, Err, inr, get_or, slice_set, drop, map, nat_le, ◌&&◌}
 use Rattle.std.proofs.lemmas.Grind.{common_steps}
 use Rattle.std.proofs.lemmas.List.{at_drop_more, length-map}
 use Rattle.std.proofs.lemmas.List.Quantifiers.{position-Some}
@@ -12,13 +12,15 @@ use Rattle.tr_hub.specs.declared.answers.Asked.{Asked}
 use Rattle.tr_workers.specs.declared.receipts.Receipts.{Receipts}
 use Rattle.tr_workers.specs.declared.scripts.Script.{Script}
 use Rattle.tr_scenario.specs.declared.faults.ScenarioFault.{ScenarioFault}
+use Rattle.tr_scenario.specs.declared.scenarios.Job.{Job}
+use Rattle.tr_scenario.specs.declared.scenarios.Job.TheVariants.{Steps, Workers}
 use Rattle.tr_scenario.specs.declared.steps.Step.{Step}
-use Rattle.tr_scenario.specs.Threaded.{IsRun, PrintsRun, RunsWorkers, item_of, script_of, share_of, scripts_of, with_step, with_steps}
+use Rattle.tr_scenario.specs.Threaded.{IsRun, PrintsRun, RunsWorkers, item_of_step, is_manned, script_of, share_of, scripts_of, scripts_of_job, with_step, with_steps}
 use Rattle.tr_scenario.specs.declared.threads.Share.{Share}
 
 -- a script with the call of one step more
 abbrev pub longer : Step → Share → Share
-longer s x = record { actor = x.actor; items = x.items ++ item_of s ∷ [] }
+longer s x = record { actor = x.actor; items = x.items ++ item_of_step s ∷ [] }
 
 -- a step goes to the first script of its actor
 goes_to : (s : Step) (xs : List Share) (i : ℕ) (d : Share) → i < length xs → ((get_or xs i d).actor == s.actor) ≡ true →
@@ -85,6 +87,14 @@ actors_of_scripts (x ∷ xs) = ap (λ ns. x.actor ∷ ns) (actors_of_scripts xs)
 
 pub actors_are_distinct : (ss : List Step) → no_repeat (map (λ (s : Script). s.actor) (scripts_of ss)) ≡ true
 actors_are_distinct ss = ap no_repeat (actors_of_scripts (with_steps [] ss)) ∙ distinct_after [] ss refl
+
+pub job_is_distinct : (job : Job) → is_manned job ≡ true → no_repeat (map (λ (s : Script). s.actor) (scripts_of_job job)) ≡ true
+job_is_distinct (Steps steps) h = actors_are_distinct steps
+job_is_distinct (Workers scripts) h = both (nat_le (length scripts) 64) (no_repeat (map (λ (s : Script). s.actor) scripts)) h
+  where
+    both : (b c : Bool) → (b && c) ≡ true → c ≡ true
+    both true c t = t
+    both false c t = cc
 
 -- what a run leaves, printed, is the run
 pub ran : {X : Type 0} (old new : List ℕ) (failures after : ℕ) (start : Start) (scripts : List Script) (turns : ℕ) (k : State) (asked : List Asked) (ws : List Receipts) (r : Result X ScenarioFault)

@@ -5,11 +5,15 @@ pub mod Kernels
 pub mod Kinds
 pub mod Lines
 pub mod Printing
+pub mod Private
 pub mod Replies
+pub mod Rounds
 pub mod RunTexts
 pub mod Scenarios
 pub mod Serial
 pub mod Sources
+pub mod Steps
 pub mod Threaded
 pub mod Told
+pub mod Workers
 pub mod Writers

@@ -1,29 +1,30 @@
--- A run of workers: one for each actor of a scenario, and the text of what they leave.
-use Rattle.std.specs.Prelude.{◌≡◌, ◌⊎◌, ℕ, ◌<◌, ◌≤◌, ◌==◌, Bool, true, List, [], ◌∷◌, ◌++◌, codes, decimal, length, map, sum_by, if◌then◌else◌, Result, Ok, Err}
+-- A run of workers: those of a scenario, or one for each actor of its steps, and the text of what they leave.
+use Rattle.std.specs.Prelude.{◌≡◌, ◌⊎◌, ℕ, ◌<◌, ◌≤◌, ◌==◌, Bool, true, ◌&&◌, nat_le, List, [], ◌∷◌, ◌++◌, codes, length, map, sum_by, if◌then◌else◌, Result, Ok, Err}
 use Rattle.tr_table.specs.declared.starts.Start.{Start}
-use Rattle.tr_table.specs.Starts.{table_of}
+use Rattle.tr_table.specs.Starts.{no_repeat, table_of}
 use Rattle.tr_kernel.specs.States.{State}
 use Rattle.tr_hub.specs.declared.answers.Asked.{Asked}
 use Rattle.tr_hub.specs.Kept.{IsKept}
-use Rattle.tr_status.specs.Texts.{texts}
 use Rattle.tr_status.specs.Writing.{IsFront}
 use Rattle.tr_workers.specs.declared.receipts.Receipts.{Receipts}
 use Rattle.tr_workers.specs.declared.scripts.Item.{Item}
 use Rattle.tr_workers.specs.declared.scripts.Plan.TheVariants as plan
 use Rattle.tr_workers.specs.declared.scripts.Repeat.TheVariants.{Times}
 use Rattle.tr_workers.specs.declared.scripts.Script.{Script}
-use Rattle.tr_workers.specs.declared.working.Ended.{Ended}
-use Rattle.tr_workers.specs.declared.working.Ended.TheVariants.{AtEnd, OutOfTurns}
+use Rattle.tr_workers.specs.declared.working.Tally.{Tally}
 use Rattle.tr_workers.specs.declared.runs.RunFault.{RunFault}
 use Rattle.tr_workers.specs.declared.runs.RunFault.TheVariants as run_fault
 use Rattle.tr_workers.specs.Runs.{AreDone}
 use Rattle.tr_workers.specs.Settled.{IsSettled}
 use Rattle.tr_scenario.specs.declared.faults.ScenarioFault.{ScenarioFault}
 use Rattle.tr_scenario.specs.declared.faults.ScenarioFault.TheVariants.{BadStart, NoMemory, Repeated, TooLarge, Unsettled}
-use Rattle.tr_scenario.specs.declared.steps.Scenario.{Scenario}
+use Rattle.tr_scenario.specs.declared.scenarios.Job.{Job}
+use Rattle.tr_scenario.specs.declared.scenarios.Job.TheVariants.{Steps, Workers}
+use Rattle.tr_scenario.specs.declared.scenarios.Scenario.{Scenario}
 use Rattle.tr_scenario.specs.declared.steps.Step.{Step}
 use Rattle.tr_scenario.specs.declared.threads.Share.{Share}
 use Rattle.tr_scenario.specs.Kernels.{so_far}
+use Rattle.tr_scenario.specs.Lines.{worker_line}
 use Rattle.tr_scenario.specs.Printing.{IsHalt}
 use Rattle.tr_scenario.specs.RunTexts.{end_text}
 use Rattle.tr_scenario.specs.Serial.{Devices, HasRead, IsRefused, IsUnread}
@@ -31,17 +32,17 @@ use Rattle.tr_scenario.specs.Serial.{Devices, HasRead, IsRefused, IsUnread}
 -- Scripts
 
 -- the event of a step, as often as it says
-abbrev pub item_of : Step → Item
-item_of s = record { event = s.event; repeat = Times s.times }
+abbrev pub item_of_step : Step → Item
+item_of_step s = record { event = s.event; repeat = Times s.times }
 
 -- an actor's share of a single step
 abbrev pub share_of : Step → Share
-share_of s = record { actor = s.actor; items = item_of s ∷ [] }
+share_of s = record { actor = s.actor; items = item_of_step s ∷ [] }
 
 -- a step goes to its actor's share, which comes last where it is new
 abbrev pub with_step : List Share → Step → List Share
 with_step [] s = share_of s ∷ []
-with_step (x ∷ xs) s = if x.actor == s.actor then record { actor = x.actor; items = x.items ++ item_of s ∷ [] } ∷ xs else x ∷ with_step xs s
+with_step (x ∷ xs) s = if x.actor == s.actor then record { actor = x.actor; items = x.items ++ item_of_step s ∷ [] } ∷ xs else x ∷ with_step xs s
 
 -- each step goes to its actor's share, in their order
 abbrev pub with_steps : List Share → List Step → List Share
@@ -56,26 +57,26 @@ script_of x = record { actor = x.actor; plan = plan.Items x.items }
 abbrev pub scripts_of : List Step → List Script
 scripts_of ss = map script_of (with_steps [] ss)
 
+-- a script for each actor of the steps, or those of the workers
+abbrev pub scripts_of_job : Job → List Script
+scripts_of_job (Steps steps) = scripts_of steps
+scripts_of_job (Workers scripts) = scripts
+
+-- at most 64 workers, each of another actor
+abbrev pub is_manned : Job → Bool
+is_manned (Steps steps) = true
+is_manned (Workers scripts) = nat_le (length scripts) 64 && no_repeat (map (λ (x : Script). x.actor) scripts)
+
 -- The text
 
--- whether a worker made all its calls, or its turns were used up before
-abbrev pub end_of : Ended → List ℕ
-end_of AtEnd = codes "end"
-end_of OutOfTurns = codes "turns"
-
--- what a worker entered, what its entries accepted, what it was refused, and how it ended
-unfoldable pub worker_line : Receipts → List ℕ
-worker_line w = texts (
-    codes "worker " ∷ decimal w.actor ∷
-    codes " entries " ∷ decimal w.entries ∷
-    codes " accepted " ∷ decimal w.accepted ∷
-    codes " refused " ∷ decimal w.refused ∷
-    codes " " ∷ end_of w.outcome ∷ codes "\n" ∷ [])
+-- what it handed back, without the answers
+abbrev pub tally_of : Receipts → Tally
+tally_of w = record { entries = w.entries; accepted = w.accepted; refused = w.refused; outcome = w.outcome }
 
 -- one after the other
 abbrev pub worker_lines : List Receipts → List ℕ
 worker_lines [] = []
-worker_lines (w ∷ ws) = worker_line w ++ worker_lines ws
+worker_lines (w ∷ ws) = worker_line w.actor (tally_of w) ++ worker_lines ws
 
 -- the workers, the statuses, and the totals
 abbrev pub workers_text : State → List Receipts → List ℕ
@@ -131,7 +132,7 @@ RunsWorkers old new failures failures_new start scripts turns (Err e) =
 -- the bytes that came are a scenario that was run by workers and printed; or they are refused, or were not read
 abbrev pub RunsThreaded : {X : Type 0} → Devices → Devices → ℕ → Result X ScenarioFault → Type 0
 RunsThreaded old new turns (Ok x) =
-    (bytes : List ℕ) × (s : Scenario) × HasRead old new bytes s × RunsWorkers {X = Unit {0}} old.taken new.taken old.failures new.failures s.start (scripts_of s.steps) turns (Ok tt)
+    (bytes : List ℕ) × (s : Scenario) × HasRead old new bytes s × RunsWorkers {X = Unit {0}} old.taken new.taken old.failures new.failures s.start (scripts_of_job s.job) turns (Ok tt)
 RunsThreaded old new turns (Err e) =
     (bytes : List ℕ) × (IsRefused old new bytes e ⊎ (IsUnread old new bytes e
-    ⊎ ((s : Scenario) × HasRead old new bytes s × RunsWorkers {X = Unit {0}} old.taken new.taken old.failures new.failures s.start (scripts_of s.steps) turns (Err e))))
+    ⊎ ((s : Scenario) × HasRead old new bytes s × RunsWorkers {X = Unit {0}} old.taken new.taken old.failures new.failures s.start (scripts_of_job s.job) turns (Err e))))

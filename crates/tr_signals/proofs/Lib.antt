@@ -1,3 +1,4 @@
 pub mod Taking
 pub mod Ready
 pub mod TakingAny
+pub mod Chosen

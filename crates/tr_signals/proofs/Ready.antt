@@ -9,6 +9,7 @@ use Rattle.std.proofs.lemmas.Option.{slice_get_past}
 use Rattle.std.specs.Int.{bit_at}
 use Rattle.std.specs.List.{find, position, position_or_len}
 use Rattle.std.specs.Prelude.{nat_lt, slice_get}
+use Rattle.std.specs.Option.{option_or}
 use Rattle.tr_sigset.specs.declared.sets.SigSet.{SigSet}
 use Rattle.tr_sigset.specs.Sets.{has, in_word, word_of}
 use Rattle.tr_sigset.proofs.Members.{in_word-zero}
@@ -23,7 +24,6 @@ use Rattle.tr_tracee.specs.Lives.{is_free, is_live}
 use Rattle.tr_tracee.specs.Threads.{has_mark, in_group, is_ready_to_take}
 use Rattle.tr_group.specs.Members.{at_place, member}
 use Rattle.tr_model.specs.declared.rows.Target.TheVariants as target
-use Rattle.tr_model.specs.Preferred.{or_other}
 use Rattle.tr_model.specs.Tables.{Table, members, queue}
 use Rattle.tr_model.specs.Takes.{can_take}
 use Rattle.tr_model.proofs.Among.{Among, filter_among}
@@ -91,7 +91,7 @@ nonzero w n e = go (w == 0) refl
     go true z = absurd (true≢false (sym e ∙ (ap (λ v. in_word v n) (eqb-true w 0 z) ∙ in_word-zero n)))
     go false z = refl
 
-either : (a b : Option Instance) → is_some (or_other a b) ≡ (is_some a || is_some b)
+either : (a b : Option Instance) → is_some (option_or a b) ≡ (is_some a || is_some b)
 either None b = refl
 either (Some i) b = refl
 

@@ -1,5 +1,6 @@
 -- What a take that is due takes, and what the model makes of it.
-use Rattle.std.proofs.Common.{◌≡◌, ◌∙◌, ℕ, [], ◌∷◌, Bool, true, false, not, Option, Some, None, Result, Ok, Err, refl, sym, ap, subst}
+use Rattle.std.proofs.Common.{◌≡◌, ◌∙◌, ℕ, true, false, Option, Some, None, Result, refl, sym, ap, subst}
+use Rattle.std.proofs.lemmas.Bool.{true≢false}
 use Rattle.tr_pending.specs.declared.instance.Instance.{Instance}
 use Rattle.tr_tracee.specs.declared.life.Life.{Life}
 use Rattle.tr_tracee.specs.declared.life.Life.TheVariants as life
@@ -7,31 +8,25 @@ use Rattle.tr_tracee.specs.declared.life.Stop.TheVariants as stop
 use Rattle.tr_tracee.specs.declared.thread.Thread.{Thread}
 use Rattle.tr_tracee.specs.Lives.{is_free}
 use Rattle.tr_tracee.specs.Stops.{may_enter}
-use Rattle.tr_tracee.specs.Threads.{has_mark}
-use Rattle.tr_model.specs.declared.checked.Checked.{Checked}
-use Rattle.tr_model.specs.declared.checked.Checked.TheVariants.{Due, Quiet}
 use Rattle.tr_model.specs.declared.events.Event.TheVariants.{Take}
-use Rattle.tr_model.specs.declared.replies.Refusal.{Refusal}
-use Rattle.tr_model.specs.declared.replies.Refusal.TheVariants.{NotRunning, Busy}
 use Rattle.tr_model.specs.declared.rows.Target.{Target}
-use Rattle.tr_model.specs.declared.rows.Target.TheVariants as target
-use Rattle.tr_pending.specs.Waiting.{best_of}
-use Rattle.tr_model.specs.Causes.{can_take_thread, first_cause, nothing_where, refused_if, thread_then, unless}
 use Rattle.tr_model.specs.Journals.{IsSorted, queue_of, taken_by}
 use Rattle.tr_model.specs.Moves.{Work, at, begin, entered_now, hold, holding, instance_in, on_instance, on_thread, pulled}
-use Rattle.tr_model.specs.Preferred.{best_for, check, quiet_or, refused_or, take_choice, taking}
-use Rattle.tr_model.specs.Steps.{takes_instance}
-use Rattle.tr_model.specs.Tables.{Table, queue, thread_of}
-use Rattle.tr_model.specs.Takes.{can_take, choices, take, take_numbered, taken_from, with_number}
-use Rattle.tr_model.proofs.Takable.{best_is_chosen}
+use Rattle.tr_model.specs.Choices.{Choice, takes_instance}
+use Rattle.tr_model.specs.Compare.{Permits}
+use Rattle.tr_model.specs.Tables.{Table, thread_of}
+use Rattle.tr_model.specs.Takes.{choices, take, take_numbered, with_number}
+use Rattle.tr_model.proofs.Among.{some_found}
+use Rattle.tr_table.specs.Choices.{target_in}
 use Rattle.tr_model.specs.declared.replies.Reply.{Reply}
 use Rattle.tr_model.specs.GroupStops.{complete_group_stops}
-use Rattle.tr_model.specs.Steps.{Outcome}
+use Rattle.tr_model.specs.Steps.{Outcome, number, takes}
 use Rattle.tr_model.specs.Steps as Steps
 use Rattle.std.specs.Prelude.{IfOk}
 use Rattle.tr_steps.proofs.Put.{id_found}
 use Rattle.tr_steps.specs.UnderWay.{ComesTo, UnderWay}
 use Rattle.tr_signals.specs.Private.{Takes, take_outcome}
+use Rattle.tr_signals.proofs.Chosen.{chosen_is}
 
 -- A free thread that holds an instance enters its signal-delivery-stop
 
@@ -49,68 +44,45 @@ hold_is w t i k =
     ap (λ o. on_thread o (λ t. on_instance (instance_in w.table.waiting i.n) (holding t)) w) k.there
     ∙ (ap (λ o. on_instance o (holding t) w) k.waits ∙ rw (k.free, may_free t.life k.free) refl)
 
--- What is due
+-- What is admitted
 
 pub record IsDue (T : Table) (id n : ℕ) : Type 0 where
   pub thread : Thread
   pub instance : Instance
   pub there : thread_of T id ≡ Some thread
-  pub free : is_free thread.life ≡ true
-  pub best : best_for T thread ≡ Some instance
-  pub number : instance.n ≡ n
+  pub chosen : with_number n (choices T thread) ≡ Some instance
 
-abbrev answer : Table → Option Thread → Result Checked Refusal
-answer T o = refused_or (first_cause (thread_then o (λ t. unless (is_free t.life) NotRunning ∷ refused_if (has_mark t) Busy ∷ []))) (quiet_or (nothing_where (not (can_take_thread T o))) (take_choice T o))
-
-chosen : Result Checked Refusal → Option ℕ
-chosen (Ok (Due c)) = c.instance
-chosen (Ok (Quiet r)) = None
-chosen (Err why) = None
-
-none_some : (n : ℕ) → None ≡ Some n → ⊥
-none_some n e = cc
-
-some_same : (m n : ℕ) → Some m ≡ Some n → m ≡ n
-some_same m n e = cc
-
-pub is_due : (T : Table) (a id n : ℕ) → check T a (Take id) ≡ Ok (Due (takes_instance n)) → IsDue T id n
-unfolding chosen
-is_due T a id n e = go (thread_of T id) refl e
+pub due_with : (T : Table) (id n : ℕ) → takes T (thread_of T id) n ≡ true → IsDue T id n
+due_with T id n e = go (thread_of T id) refl e
   where
-    with_best : (t : Thread) → thread_of T id ≡ Some t → is_free t.life ≡ true → (o : Option Instance) → best_for T t ≡ o → (b : Bool) → quiet_or (nothing_where (not b)) (taking o) ≡ Ok (Due (takes_instance n)) → IsDue T id n
-    with_best t f g None h true q = absurd (none_some n (ap chosen q))
-    with_best t f g None h false q = absurd (none_some n (ap chosen q))
-    with_best t f g (Some i) h true q = record { thread = t; instance = i; there = f; free = g; best = h; number = some_same i.n n (ap chosen q) }
-    with_best t f g (Some i) h false q = absurd (none_some n (ap chosen q))
+    go : (o : Option Thread) → thread_of T id ≡ o → takes T o n ≡ true → IsDue T id n
+    go None f q = absurd (true≢false (sym q))
+    go (Some t) f q = let i = some_found (with_number n (choices T t)) q in record { thread = t; instance = i.0; there = f; chosen = i.1 }
 
-    with_thread : (t : Thread) → thread_of T id ≡ Some t → (b m : Bool) → is_free t.life ≡ b → refused_or (first_cause (unless b NotRunning ∷ refused_if m Busy ∷ [])) (quiet_or (nothing_where (not (can_take T t))) (taking (best_for T t))) ≡ Ok (Due (takes_instance n)) → IsDue T id n
-    with_thread t f true false g q = with_best t f g (best_for T t) refl (can_take T t) q
-    with_thread t f true true g q = absurd (none_some n (ap chosen q))
-    with_thread t f false m g q = absurd (none_some n (ap chosen q))
-
-    go : (o : Option Thread) → thread_of T id ≡ o → answer T o ≡ Ok (Due (takes_instance n)) → IsDue T id n
-    go None f q = absurd (none_some n (ap chosen q))
-    go (Some t) f q = with_thread t f (is_free t.life) (has_mark t) refl q
+pub is_due : (T : Table) (a id n : ℕ) → Permits T a (Take id) (takes_instance n) → IsDue T id n
+is_due T a id n p =
+    let h = p.admitted in
+    let same : n ≡ h.0 = ap (λ (c : Choice). number c.instance) h.1 in
+    due_with T id n (subst (λ k. takes T (thread_of T id) k ≡ true) (sym same) h.2)
 
 -- What the model makes of it
 
 pub record Took (T : Table) (id n : ℕ) (t : Thread) (i : Instance) : Type 0 where
   pub takes : Takes T t i
   pub does : at id (take_numbered n) (begin T) ≡ take t i (begin T)
-  pub queue : queue_of (taken_by T (thread_of T id) n) ≡ Some (taken_from (best_of t.mask (queue T (target.Thread t.id))) t)
+  pub queue : queue_of (taken_by T (thread_of T id) n) ≡ target_in T.waiting i.n
 
 took_is : (T : Table) (id n : ℕ) → IsSorted T.waiting → (d : IsDue T id n) → Took T id n d.thread d.instance
 took_is T id n s d =
-    let b = best_is_chosen T d.thread d.instance s d.best in
-    let c : with_number n (choices T d.thread) ≡ Some d.instance = ap (λ k. with_number k (choices T d.thread)) (sym d.number) ∙ b.chosen in
+    let b = chosen_is T d.thread n d.instance s d.chosen in
     record {
-      takes = record { there = ap (thread_of T) (id_found id T.threads d.thread d.there) ∙ d.there; free = d.free; waits = b.waits };
-      does = ap (λ o. on_thread o (take_numbered n) (begin T)) d.there ∙ ap (λ o. on_instance o (take d.thread) (begin T)) c;
-      queue = ap (λ o. queue_of (taken_by T o n)) d.there ∙ (ap (λ k. queue_of (taken_by T (Some d.thread) k)) (sym d.number) ∙ ap queue_of b.taken);
+      takes = record { there = ap (thread_of T) (id_found id T.threads d.thread d.there) ∙ d.there; free = b.free; waits = ap (instance_in T.waiting) b.number ∙ b.waits };
+      does = ap (λ o. on_thread o (take_numbered n) (begin T)) d.there ∙ ap (λ o. on_instance o (take d.thread) (begin T)) d.chosen;
+      queue = ap (λ o. queue_of (taken_by T o n)) d.there ∙ (ap queue_of b.taken ∙ (sym b.there ∙ ap (target_in T.waiting) (sym b.number)));
     }
 
 pub waits_there : (T : Table) (id n : ℕ) → IsSorted T.waiting → (d : IsDue T id n) → instance_in T.waiting n ≡ Some d.instance
-waits_there T id n s d = ap (instance_in T.waiting) (sym d.number) ∙ (best_is_chosen T d.thread d.instance s d.best).waits
+waits_there T id n s d = (chosen_is T d.thread n d.instance s d.chosen).waits
 
 pub took_of : (T : Table) (id n : ℕ) (t : Thread) (i : Instance) → IsSorted T.waiting → IsDue T id n → thread_of T id ≡ Some t → instance_in T.waiting n ≡ Some i → Took T id n t i
 took_of T id n t i s d e f =

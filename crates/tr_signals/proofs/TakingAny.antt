@@ -1,28 +1,21 @@
 -- What is answered of a take by any thread of a group, and what one that is due takes.
-use Rattle.std.proofs.Common.{◌≡◌, ◌||◌, ◌∙◌, ℕ, List, [], ◌∷◌, Bool, true, false, not, if◌then◌else◌, cond, Option, Some, None, is_some, Result, Ok, Err, refl, sym, ap}
-use Rattle.std.proofs.lemmas.Bool.{and_parts}
+use Rattle.std.proofs.Common.{◌≡◌, ◌||◌, ◌∙◌, ℕ, List, [], ◌∷◌, Bool, true, false, not, if◌then◌else◌, cond, Option, Some, None, is_some, Result, Ok, refl, sym, ap, subst}
 use Rattle.std.specs.List.{find, list_any}
-use Rattle.tr_pending.specs.declared.instance.Instance.{Instance}
-use Rattle.tr_pending.specs.Waiting.{best_of}
 use Rattle.tr_tracee.specs.declared.thread.Thread.{Thread}
-use Rattle.tr_tracee.specs.Lives.{is_free}
-use Rattle.tr_tracee.specs.Threads.{has_mark, in_group, is_ready_to_take}
 use Rattle.tr_model.specs.declared.checked.Checked.{Checked}
 use Rattle.tr_model.specs.declared.checked.Checked.TheVariants.{Due, Quiet}
-use Rattle.tr_model.specs.declared.events.Choice.{Choice}
+use Rattle.tr_model.specs.Choices.{Choice, no_choice, takes_by}
 use Rattle.tr_model.specs.declared.events.Event.TheVariants.{TakeAny}
 use Rattle.tr_model.specs.declared.replies.Refusal.{Refusal}
 use Rattle.tr_model.specs.declared.replies.Refusal.TheVariants.{Srch}
 use Rattle.tr_model.specs.declared.replies.Reply.TheVariants.{Nothing}
-use Rattle.tr_model.specs.declared.rows.Target.TheVariants as target
 use Rattle.tr_model.specs.Causes.{first_cause, nothing_where, unless}
-use Rattle.tr_model.specs.Journals.{DistinctIds}
-use Rattle.tr_model.specs.Preferred.{best_for, check, or_other, quiet_or, refused_or, take_any_choice, taking_by}
-use Rattle.tr_model.specs.Steps.{no_choice, takes_by}
-use Rattle.tr_model.specs.Tables.{Table, group_of, members, queue, thread_of}
+use Rattle.tr_model.specs.Compare.{Permits}
+use Rattle.tr_model.specs.Steps.{number, takes}
+use Rattle.tr_model.specs.Preferred.{best_for, check, quiet_or, refused_or, take_any_choice, taking_by}
+use Rattle.tr_model.specs.Tables.{Table, group_of, members, thread_of}
 use Rattle.tr_model.specs.Takes.{can_take}
-use Rattle.tr_model.proofs.Among.{filter_among, find_among, found_by_id}
-use Rattle.tr_signals.proofs.Taking.{IsDue}
+use Rattle.tr_signals.proofs.Taking.{IsDue, due_with}
 
 -- What is answered, by the first thread that can take something
 
@@ -64,47 +57,11 @@ check_is T a g =
     ∙ (ap (λ c. refused_or (first_cause (unless (is_some (group_of T g)) Srch ∷ [])) (quiet_or (nothing_where (not (is_some (find (can_take T) ts)))) c)) (choice_found T ts)
     ∙ ap (refused_or (first_cause (unless (is_some (group_of T g)) Srch ∷ []))) (answered T (find (can_take T) ts)))
 
--- What is due
+-- What is admitted
 
-chosen : Result Checked Refusal → Option ℕ
-chosen (Ok (Due c)) = c.instance
-chosen (Ok (Quiet r)) = None
-chosen (Err why) = None
-
-taker : Result Checked Refusal → Option ℕ
-taker (Ok (Due c)) = c.thread
-taker (Ok (Quiet r)) = None
-taker (Err why) = None
-
-none_some : (n : ℕ) → None ≡ Some n → ⊥
-none_some n e = cc
-
-some_same : (m n : ℕ) → Some m ≡ Some n → m ≡ n
-some_same m n e = cc
-
-best_free : (T : Table) (t : Thread) (i : Instance) → best_for T t ≡ Some i → is_free t.life ≡ true
-best_free T t i e = go (is_ready_to_take t) refl e
-  where
-    nothing : None ≡ Some i → ⊥
-    nothing q = cc
-
-    go : (b : Bool) → is_ready_to_take t ≡ b → (if b then or_other (best_of t.mask (queue T (target.Thread t.id))) (best_of t.mask (queue T (target.Group t.group))) else None) ≡ Some i → is_free t.life ≡ true
-    go true h q = (and_parts (is_free t.life) (not (has_mark t)) h).0
-    go false h q = absurd (nothing q)
-
-pub is_due_any : (T : Table) (a g id n : ℕ) → DistinctIds T → check T a (TakeAny g) ≡ Ok (Due (takes_by id n)) → IsDue T id n
-unfolding chosen taker
-is_due_any T a g id n ids e = go (is_some (group_of T g)) (find (can_take T) (members T g)) refl (sym (check_is T a g) ∙ e)
-  where
-    with_best : (t : Thread) → find (can_take T) (members T g) ≡ Some t → (o : Option Instance) → best_for T t ≡ o → ◌≡◌ {A = Result Checked Refusal} (Ok (Due (taking_by t.id o))) (Ok (Due (takes_by id n))) → IsDue T id n
-    with_best t f None h q = absurd (none_some n (ap chosen q))
-    with_best t f (Some i) h q =
-        let same : t.id ≡ id = some_same t.id id (ap taker q) in
-        let m = find_among (can_take T) t (members T g) f in
-        let there : thread_of T t.id ≡ Some t = found_by_id t T.threads ids (filter_among (in_group g) t T.threads m.0).0 in
-        record { thread = t; instance = i; there = ap (thread_of T) (sym same) ∙ there; free = best_free T t i h; best = h; number = some_same i.n n (ap chosen q) }
-
-    go : (b : Bool) (o : Option Thread) → find (can_take T) (members T g) ≡ o → answer_in T b o ≡ Ok (Due (takes_by id n)) → IsDue T id n
-    go false o f q = absurd (none_some n (ap chosen q))
-    go true None f q = absurd (none_some n (ap chosen q))
-    go true (Some t) f q = with_best t f (best_for T t) refl q
+pub is_due_any : (T : Table) (a g id n : ℕ) → Permits T a (TakeAny g) (takes_by id n) → IsDue T id n
+is_due_any T a g id n p =
+    let h = p.admitted in
+    let who : id ≡ h.0 = ap (λ (c : Choice). number c.thread) h.2 in
+    let what : n ≡ h.1 = ap (λ (c : Choice). number c.instance) h.2 in
+    due_with T id n (subst (λ k. takes T (thread_of T k) n ≡ true) (sym who) (subst (λ k. takes T (thread_of T h.0) k ≡ true) (sym what) h.4))

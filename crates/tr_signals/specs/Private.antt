@@ -19,7 +19,8 @@ use Rattle.tr_model.specs.GroupStops.{complete_group_stops}
 use Rattle.tr_model.specs.Moves.{Work, alter, begin, instance_in}
 use Rattle.tr_model.specs.Preferred.{quiet_or, refused_or}
 use Rattle.tr_model.specs.Sends.{send}
-use Rattle.tr_model.specs.Steps.{Outcome, no_choice, sent}
+use Rattle.tr_model.specs.Steps.{Outcome, sent}
+use Rattle.tr_model.specs.Choices.{no_choice}
 use Rattle.tr_model.specs.Stops.{at_stop, stop_with}
 use Rattle.tr_model.specs.Tables.{Table, stop_in_effect, thread_of}
 use Rattle.tr_model.specs.Takes.{did_at_take, take}

@@ -8,7 +8,8 @@ use Rattle.tr_model.specs.Causes.{first_cause, script, with_thread}
 use Rattle.tr_model.specs.GroupStops.{complete_group_stops}
 use Rattle.tr_model.specs.Moves.{alter, begin}
 use Rattle.tr_model.specs.Preferred.{quiet_or, refused_or}
-use Rattle.tr_model.specs.Steps.{Outcome, no_choice}
+use Rattle.tr_model.specs.Steps.{Outcome}
+use Rattle.tr_model.specs.Choices.{no_choice}
 use Rattle.tr_model.specs.Tables.{Table}
 use Rattle.tr_table.specs.declared.threads.ThreadChange.{ThreadChange}
 use Rattle.tr_table.specs.Changes.{thread_changed_by}

@@ -6,7 +6,7 @@ ghost use Rattle.tr_model.specs.declared.events.Event.TheVariants.{SetAction};
 ghost use Rattle.tr_model.specs.Moves.{at, when};
 ghost use Rattle.tr_model.specs.Preferred.{check};
 ghost use Rattle.tr_model.specs.Sends.{flush_in, set_action};
-ghost use Rattle.tr_model.specs.Steps.{no_choice};
+ghost use Rattle.tr_model.specs.Choices.{no_choice};
 ghost use Rattle.tr_steps.specs.UnderWay.{IsStepOf, Moves, entry};
 
 use crate::scripts::script;

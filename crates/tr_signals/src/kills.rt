@@ -5,7 +5,8 @@ ghost use Rattle.tr_model.specs.declared.checked.Checked.TheVariants.{Due};
 ghost use Rattle.tr_model.specs.declared.events.Event.TheVariants.{Kill, Sigqueue, Tgkill};
 ghost use Rattle.tr_model.specs.Causes.{is_in};
 ghost use Rattle.tr_model.specs.Preferred.{check};
-ghost use Rattle.tr_model.specs.Steps.{fate_in, no_choice};
+ghost use Rattle.tr_model.specs.Steps.{fate_in};
+ghost use Rattle.tr_model.specs.Choices.{no_choice};
 ghost use Rattle.tr_model.specs.Tables.{thread_of};
 ghost use Rattle.tr_steps.specs.UnderWay.{ComesTo, IsStepOf, entry};
 ghost use Rattle.tr_signals.specs.Private.{is_over_limit, send_checked, send_outcome};
@@ -95,7 +96,7 @@ pub fn kill(step: &mut Step, actor: u32, tgid: u32, sig: u8) -> Result<Reply, Al
     send_numbered(step, sig, &info, Target::Group(tgid))
 }
 
-fn is_in(table: &Table, tgid: u32, tid: u32) -> bool
+pub(crate) fn is_in(table: &Table, tgid: u32, tid: u32) -> bool
     ensures { result ≡ is_in tgid (thread_of table.now.table tid) }
 {
     match table.find(tid) {

@@ -4,6 +4,7 @@
 
 mod actions;
 mod acts;
+mod choices;
 mod kills;
 mod masks;
 mod scripts;
@@ -13,6 +14,7 @@ mod takes;
 
 pub use actions::{check_set_action, set_action};
 pub use acts::act_on;
+pub use choices::{admits_take, admits_take_any, took};
 pub use kills::{check_kill, check_sigqueue, check_tgkill, fate_in, kill, sigqueue, tgkill};
 pub use masks::{check_mask, check_pause, mask, pause};
 pub use scripts::{change_own, check_script, script};

@@ -4,7 +4,7 @@ ghost use Rattle.std.specs.Prelude.{◌≡◌, ℕ, IfOk, OnErr, Ok};
 ghost use Rattle.tr_model.specs.declared.checked.Checked.TheVariants.{Due};
 ghost use Rattle.tr_model.specs.declared.events.Event.TheVariants.{Mask, Pause};
 ghost use Rattle.tr_model.specs.Preferred.{check};
-ghost use Rattle.tr_model.specs.Steps.{no_choice};
+ghost use Rattle.tr_model.specs.Choices.{no_choice};
 ghost use Rattle.tr_steps.specs.UnderWay.{IsStepOf, entry};
 
 use crate::scripts::{change_own, check_script};

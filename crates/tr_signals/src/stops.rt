@@ -8,7 +8,7 @@ ghost use Rattle.tr_model.specs.declared.checked.Checked.TheVariants.{Due};
 ghost use Rattle.tr_model.specs.declared.events.Event.TheVariants.{Halt, Trap};
 ghost use Rattle.tr_model.specs.Moves.{at};
 ghost use Rattle.tr_model.specs.Preferred.{check};
-ghost use Rattle.tr_model.specs.Steps.{no_choice};
+ghost use Rattle.tr_model.specs.Choices.{no_choice};
 ghost use Rattle.tr_model.specs.Stops.{at_stop, halt, show, show_stop, stop_with, trap, trap_at};
 ghost use Rattle.tr_steps.specs.UnderWay.{IsStepOf, Moves, entry};
 ghost use Rattle.tr_signals.specs.Private.{halt_traced, halt_untraced};

@@ -1,11 +1,11 @@
 //! Which thread of a group takes a pending signal, and what it does with it: signal(7).
 
-ghost use Rattle.std.specs.Prelude.{◌≡◌, ℕ, IfOk, OnErr, Ok};
+ghost use Rattle.std.specs.Prelude.{◌≡◌, ℕ, IfOk, OnErr};
 ghost use Rattle.std.specs.List.{find};
-ghost use Rattle.tr_model.specs.declared.checked.Checked.TheVariants.{Due};
+ghost use Rattle.tr_model.specs.Compare.{Permits};
 ghost use Rattle.tr_model.specs.declared.events.Event.TheVariants.{TakeAny};
 ghost use Rattle.tr_model.specs.Preferred.{check, taking_by};
-ghost use Rattle.tr_model.specs.Steps.{takes_by};
+ghost use Rattle.tr_model.specs.Choices.{takes_by};
 ghost use Rattle.tr_model.specs.Tables.{members};
 ghost use Rattle.tr_model.specs.Takes.{can_take};
 ghost use Rattle.tr_table.specs.Rows.{RowsOf};
@@ -34,11 +34,7 @@ fn taking_by(tid: u32, best: &Option<Instance>) -> Choice
     ensures { result ≡ taking_by tid best.now }
 {
     match best {
-        Some(instance) => Choice {
-            thread: Some(tid),
-            instance: Some(instance.n),
-            ..Choice::NONE
-        },
+        Some(instance) => Choice::of_thread(tid, instance.n),
         None => Choice::NONE,
     }
 }
@@ -59,8 +55,8 @@ pub fn check_take_any(table: &Table, tgid: u32) -> Result<Checked, Refusal>
     }
 }
 
-/// A take by any thread of a group that is due, by this thread, of the pending instance with this number: as `take` by
-/// that thread. Where memory is refused, or the numbers are used up, nothing has changed.
+/// A take by any thread of a group that is due, by any thread of it and of any pending instance that the model lets that
+/// thread take: as `take` by that thread. Where memory is refused, or the numbers are used up, nothing has changed.
 pub fn take_any(
     step: &mut Step,
     actor: u32,
@@ -68,7 +64,7 @@ pub fn take_any(
     tid: u32,
     n: u64,
 ) -> Result<Reply, AllocError>
-    requires due { check step.old.work.table actor (TakeAny tgid) ≡ Ok (Due (takes_by tid n)) }
+    requires due { Permits step.old.work.table actor (TakeAny tgid) (takes_by tid n) }
     ensures did { IfOk result (IsStepOf step.old.work.table (record { actor = actor; event = TakeAny tgid; choice = takes_by tid n }) step.new) }
     ensures err { OnErr result (step.new.work.table ≡ step.old.work.table) }
 {

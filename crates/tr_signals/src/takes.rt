@@ -1,14 +1,12 @@
 //! Which pending signal a thread takes, and what it does with it: signal(7), and "Signal-delivery-stop" of ptrace(2).
 
-ghost use Rattle.std.specs.Prelude.{◌≡◌, ◌≤◌, ℕ, IfOk, OnErr, Ok, Some, false};
-ghost use Rattle.tr_pending.specs.Waiting.{best_of};
-ghost use Rattle.tr_model.specs.declared.checked.Checked.TheVariants.{Due};
+ghost use Rattle.std.specs.Prelude.{◌≡◌, ◌≤◌, ℕ, IfOk, OnErr, false};
+ghost use Rattle.tr_model.specs.Compare.{Permits};
 ghost use Rattle.tr_model.specs.declared.events.Event.TheVariants.{Take};
-ghost use Rattle.tr_model.specs.declared.rows.Target.TheVariants as target;
 ghost use Rattle.tr_model.specs.Preferred.{best_for, check};
-ghost use Rattle.tr_model.specs.Steps.{takes_instance};
-ghost use Rattle.tr_model.specs.Tables.{queue};
-ghost use Rattle.tr_model.specs.Takes.{act, can_take, deliver, did_at_take, take, taken_from};
+ghost use Rattle.tr_model.specs.Choices.{takes_instance};
+ghost use Rattle.tr_model.specs.Takes.{act, can_take, deliver, did_at_take, take};
+ghost use Rattle.tr_table.specs.Choices.{target_in};
 ghost use Rattle.tr_steps.specs.UnderWay.{ComesTo, IsStepOf, Moves};
 ghost use Rattle.tr_signals.specs.Private.{Takes, take_outcome};
 
@@ -40,15 +38,6 @@ pub(crate) fn can_take(table: &Table, thread: &Thread) -> bool
     best_for(table, thread).is_some()
 }
 
-fn taking(n: u64) -> Choice
-    ensures { result ≡ takes_instance n }
-{
-    Choice {
-        instance: Some(n),
-        ..Choice::NONE
-    }
-}
-
 /// Whether a take by a thread is refused, answered Nothing, or due. ESRCH comes where there is no such thread,
 /// NotRunning where it isn't free, and Busy where it has a mark to serve first.
 #[tactic(auto, using(tr_model::proofs::Takable::can_take_best))]
@@ -65,13 +54,13 @@ pub fn check_take(table: &Table, tid: u32) -> Result<Checked, Refusal>
         return Err(Refusal::Busy);
     }
     match best_for(table, thread) {
-        Some(instance) => Ok(Checked::Due(taking(instance.n))),
+        Some(instance) => Ok(Checked::Due(Choice::of_instance(instance.n))),
         None => Ok(Checked::Quiet(Reply::Nothing)),
     }
 }
 
 /// What a thread does with an instance that it takes: a tracee reports it, and others act by the action.
-fn did(table: &Table, thread: &Thread, instance: &Instance) -> Did
+pub(crate) fn did(table: &Table, thread: &Thread, instance: &Instance) -> Did
     ensures { result ≡ did_at_take table.now.table thread.now instance.now }
 {
     if thread.is_traced() {
@@ -102,29 +91,19 @@ fn take_instance(step: &mut Step, thread: &Thread, instance: &Instance, did: Did
     }
 }
 
-/// The queue that the thread takes from next, where it takes anything.
-fn from_queue(table: &Table, thread: &Thread) -> Target
-    ensures { result ≡ taken_from (best_of thread.now.mask (queue table.now.table (target.Thread thread.now.id))) thread.now }
-{
-    let own = Target::Thread(thread.id);
-    match table.best(own, thread.mask) {
-        Some(_) => own,
-        None => Target::Group(thread.group),
-    }
-}
-
-/// A take that is due: the thread takes the instance. Where memory is refused, or the numbers are used up, nothing has
+/// A take that is due: the thread takes the instance, from the queue where it waits. Where memory is refused, or the numbers are used up, nothing has
 /// changed.
+#[tactic(auto, using(crate::proofs::Chosen::waits_somewhere))]
 pub(crate) fn take_due(
     step: &mut Step,
     thread: &Thread,
     instance: &Instance,
 ) -> Result<Reply, AllocError>
     requires takes { Takes step.old.work.table thread.now instance.now }
-    ensures did { IfOk result (ComesTo (take_outcome step.old.work.table thread.now instance.now) (Some (taken_from (best_of thread.now.mask (queue step.old.work.table (target.Thread thread.now.id))) thread.now)) step.new) }
+    ensures did { IfOk result (ComesTo (take_outcome step.old.work.table thread.now instance.now) (target_in step.old.work.table.waiting instance.now.n) step.new) }
     ensures err { OnErr result (step.new.work.table ≡ step.old.work.table) }
 {
-    let queue = from_queue(step.table(), thread);
+    let queue = step.table().target_of(instance.n).unwrap();
     let did = did(step.table(), thread, instance);
     step.begin(2)?;
     step.take_from(queue);
@@ -137,10 +116,11 @@ pub(crate) fn take_due(
     })
 }
 
-/// A take that is due, of the pending instance with this number: a tracee enters a signal-delivery-stop that holds it,
-/// another thread acts on it. Where memory is refused, or the numbers are used up, nothing has changed.
+/// A take that is due, of any pending instance that the model lets the thread take: a tracee enters a
+/// signal-delivery-stop that holds it, another thread acts on it. Where memory is refused, or the numbers are used up,
+/// nothing has changed.
 pub fn take(step: &mut Step, actor: u32, tid: u32, n: u64) -> Result<Reply, AllocError>
-    requires due { check step.old.work.table actor (Take tid) ≡ Ok (Due (takes_instance n)) }
+    requires due { Permits step.old.work.table actor (Take tid) (takes_instance n) }
     ensures did { IfOk result (IsStepOf step.old.work.table (record { actor = actor; event = Take tid; choice = takes_instance n }) step.new) }
     ensures err { OnErr result (step.new.work.table ≡ step.old.work.table) }
 {

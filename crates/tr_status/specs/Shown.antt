@@ -1,22 +1,24 @@
--- The text of the values that the code has ready.
-use Rattle.std.specs.Prelude.{ℕ, List}
-use Rattle.tr_status.specs.declared.statuses.Values.{Values}
-use Rattle.tr_status.specs.Statuses.{lines_text}
+-- The pieces of a status, of the values that the code has ready.
+use Rattle.std.specs.Prelude.{ℕ, List, [], ◌∷◌, codes, decimal}
+use Rattle.tr_status.specs.declared.statuses.Front.{Front}
+use Rattle.tr_status.specs.declared.values.Masks.{Masks}
 
--- the text of these values, line by line
-abbrev pub values_text : Values → List ℕ
-values_text v = lines_text (record {
-  name = v.name.now;
-  state = v.state.now;
-  tgid = v.tgid.now;
-  pid = v.pid.now;
-  tracer = v.tracer.now;
-  threads = v.threads.now;
-  queued = v.queued.now;
-  limit = v.limit.now;
-  own = v.own.now;
-  shared = v.shared.now;
-  blocked = v.blocked.now;
-  ignored = v.ignored.now;
-  caught = v.caught.now;
-})
+-- the lines before those of the sets, but for the last newline
+abbrev pub front_pieces : Front → List (List ℕ)
+front_pieces v =
+    codes "Name:\t" ∷ v.name.now ∷
+    codes "\nState:\t" ∷ v.state.now ∷
+    codes "\nTgid:\t" ∷ decimal v.tgid ∷
+    codes "\nPid:\t" ∷ decimal v.pid ∷
+    codes "\nPPid:\t1\nTracerPid:\t" ∷ decimal v.tracer ∷
+    codes "\nThreads:\t" ∷ decimal v.threads ∷
+    codes "\nSigQ:\t" ∷ decimal v.queued ∷ codes "/" ∷ decimal v.limit ∷ []
+
+-- the lines of the sets, after a newline
+abbrev pub masks_pieces : Masks → List (List ℕ)
+masks_pieces m =
+    codes "\nSigPnd:\t" ∷ m.own ∷
+    codes "\nShdPnd:\t" ∷ m.shared ∷
+    codes "\nSigBlk:\t" ∷ m.blocked ∷
+    codes "\nSigIgn:\t" ∷ m.ignored ∷
+    codes "\nSigCgt:\t" ∷ m.caught ∷ codes "\n" ∷ []

@@ -1,17 +1,21 @@
-ghost use Rattle.std.specs.Prelude.{◌≡◌, ◌<◌, ◌-◌, ◌^◌};
+ghost use Rattle.std.specs.Prelude.{◌≡◌, ◌+◌, ◌<◌, ◌≤◌, ◌-◌, ◌^◌, ◌++◌, length};
 ghost use Rattle.tr_model.specs.Tables.{thread_of};
 ghost use Rattle.tr_status.specs.Faults.{WritesStatus};
-ghost use Rattle.tr_status.specs.Shown.{values_text};
+ghost use Rattle.tr_status.specs.Shown.{front_pieces, masks_pieces};
 ghost use Rattle.tr_status.specs.Statuses.{status_text};
+ghost use Rattle.tr_status.specs.Texts.{before};
 ghost use Rattle.tr_status.specs.Writing.{Writes};
 
-use crate::sinks::{Failed, Sink, put_pieces};
-use crate::values::{masks_of, name_of, state_of, tracer_number};
-use itoa::Buffer;
+use crate::sinks::{Failed, Sink, put_all};
+use crate::values::{Masks, masks_of, name_of, state_of, tracer_number};
 use tr_group::Members;
 use tr_kernel::Kernel;
 use tr_table::Table;
+use tr_text::TextBuffer;
 use tr_tracee::Thread;
+
+/// Room for a status text, which has at most 342 bytes.
+type StatusBuffer = TextBuffer<384>;
 
 /// Why a status wasn't written.
 #[derive(Clone, Copy, Debug, PartialEq, Eq)]
@@ -51,84 +55,85 @@ pub fn write_thread<K: Sink>(table: &Table, thread: &Thread, sink: &mut K) -> Re
     requires { K.failures sink.old < 2 ^ 64 - 1 }
     ensures { Writes K.taken K.failures sink.old sink.new (status_text table.now.table thread.now) result }
 {
-    let mut tgid = Buffer::new();
-    let mut pid = Buffer::new();
-    let mut tracer = Buffer::new();
-    let mut threads = Buffer::new();
-    let mut queued = Buffer::new();
-    let mut limit = Buffer::new();
-    let masks = masks_of(table, thread);
-    put_values(
-        sink,
-        Values {
+    let mut text = StatusBuffer::new();
+    compose_status(&mut text, table, thread);
+    put_all(sink, text.as_bytes())
+}
+
+/// Puts the status text of a thread of the table before a text.
+fn compose_status(text: &mut StatusBuffer, table: &Table, thread: &Thread)
+    requires { 342 ≤ text.old.room }
+    ensures { text.new.text ≡ status_text table.now.table thread.now ++ text.old.text }
+{
+    compose_masks(text, masks_of(table, thread));
+    compose_front(
+        text,
+        &Front {
             name: name_of(table.group(thread.group)),
             state: state_of(thread),
-            tgid: tgid.format(thread.group).as_bytes(),
-            pid: pid.format(thread.id).as_bytes(),
-            tracer: tracer.format(tracer_number(&thread.trace)).as_bytes(),
-            threads: threads.format(table.count(thread.group)).as_bytes(),
-            queued: queued.format(table.queued()).as_bytes(),
-            limit: limit.format(table.limit()).as_bytes(),
-            own: &masks.own,
-            shared: &masks.shared,
-            blocked: &masks.blocked,
-            ignored: &masks.ignored,
-            caught: &masks.caught,
+            tgid: thread.group,
+            pid: thread.id,
+            tracer: tracer_number(&thread.trace),
+            threads: table.count(thread.group),
+            queued: table.queued(),
+            limit: table.limit(),
         },
-    )
+    );
 }
 
-/// The texts of a status's values.
+/// The lines of the sets.
+fn compose_masks(text: &mut StatusBuffer, masks: Masks)
+    requires { 126 ≤ text.old.room }
+    ensures text { text.new.text ≡ before (masks_pieces masks) text.old.text }
+    ensures room { text.new.room + 126 ≡ text.old.room }
+{
+    text.prepend(b"\n");
+    text.prepend(&masks.caught);
+    text.prepend(b"\nSigCgt:\t");
+    text.prepend(&masks.ignored);
+    text.prepend(b"\nSigIgn:\t");
+    text.prepend(&masks.blocked);
+    text.prepend(b"\nSigBlk:\t");
+    text.prepend(&masks.shared);
+    text.prepend(b"\nShdPnd:\t");
+    text.prepend(&masks.own);
+    text.prepend(b"\nSigPnd:\t");
+}
+
+/// What the lines before those of the sets show.
 #[derive(Clone, Copy)]
-struct Values<'a> {
+struct Front<'a> {
     name: &'a [u8],
     state: &'a [u8],
-    tgid: &'a [u8],
-    pid: &'a [u8],
-    tracer: &'a [u8],
-    threads: &'a [u8],
-    queued: &'a [u8],
-    limit: &'a [u8],
-    own: &'a [u8],
-    shared: &'a [u8],
-    blocked: &'a [u8],
-    ignored: &'a [u8],
-    caught: &'a [u8],
+    tgid: u32,
+    pid: u32,
+    tracer: u32,
+    threads: usize,
+    queued: usize,
+    limit: u32,
 }
 
-#[tactic(auto, unfolding(crate::specs::Statuses::lines_text))]
-fn put_values<'a, K: Sink>(sink: &mut K, values: Values<'a>) -> Result<(), Failed>
-    requires { K.failures sink.old < 2 ^ 64 - 1 }
-    ensures { Writes K.taken K.failures sink.old sink.new (values_text values.entry) result }
+/// The lines before those of the sets, but for the last newline.
+fn compose_front(text: &mut StatusBuffer, front: &Front<'_>)
+    requires room { 216 ≤ text.old.room }
+    requires name { length front.now.name.now ≤ 15 }
+    requires state { length front.now.state.now ≤ 16 }
+    ensures { text.new.text ≡ before (front_pieces front.now) text.old.text }
 {
-    let pieces: [&'a [u8]; 27] = [
-        b"Name:\t",
-        values.name,
-        b"\nState:\t",
-        values.state,
-        b"\nTgid:\t",
-        values.tgid,
-        b"\nPid:\t",
-        values.pid,
-        b"\nPPid:\t1\nTracerPid:\t",
-        values.tracer,
-        b"\nThreads:\t",
-        values.threads,
-        b"\nSigQ:\t",
-        values.queued,
-        b"/",
-        values.limit,
-        b"\nSigPnd:\t",
-        values.own,
-        b"\nShdPnd:\t",
-        values.shared,
-        b"\nSigBlk:\t",
-        values.blocked,
-        b"\nSigIgn:\t",
-        values.ignored,
-        b"\nSigCgt:\t",
-        values.caught,
-        b"\n",
-    ];
-    put_pieces(sink, &pieces)
+    text.prepend_number(u64::from(front.limit));
+    text.prepend(b"/");
+    text.prepend_number(front.queued as u64);
+    text.prepend(b"\nSigQ:\t");
+    text.prepend_number(front.threads as u64);
+    text.prepend(b"\nThreads:\t");
+    text.prepend_number(u64::from(front.tracer));
+    text.prepend(b"\nPPid:\t1\nTracerPid:\t");
+    text.prepend_number(u64::from(front.pid));
+    text.prepend(b"\nPid:\t");
+    text.prepend_number(u64::from(front.tgid));
+    text.prepend(b"\nTgid:\t");
+    text.prepend(front.state);
+    text.prepend(b"\nState:\t");
+    text.prepend(front.name);
+    text.prepend(b"Name:\t");
 }

@@ -113,9 +113,18 @@ fn a_status_has_thirteen_lines(rt: HostRuntime) -> Result<(), Fail> {
 }
 
 #[test]
+fn a_status_is_one_put(rt: HostRuntime) -> Result<(), Fail> {
+    let table = table(rt.alloc())?;
+    let mut page = empty_page(rt.alloc(), 1000, 1);
+    assert!(rt; write_status_of(&table, 10, &mut page).is_ok());
+    assert_eq!(rt; page.bytes.as_slice(), TEXT);
+    Ok(())
+}
+
+#[test]
 fn a_failure_leaves_a_front(rt: HostRuntime) -> Result<(), Fail> {
     let table = table(rt.alloc())?;
-    let mut page = empty_page(rt.alloc(), 4, 3);
+    let mut page = empty_page(rt.alloc(), 5, 2);
     let result = write_status_of(&table, 10, &mut page);
     assert_eq!(rt; result, Err(StatusFault::Write));
     assert_eq!(rt; page.bytes.as_slice(), b"Name:\tdemo".as_slice());
@@ -138,7 +147,7 @@ fn an_absent_thread_has_no_status(rt: HostRuntime) -> Result<(), Fail> {
 fn a_pausing_thread_sleeps(rt: HostRuntime) -> Result<(), Fail> {
     let mut table = table(rt.alloc())?;
     table.change_thread(11, &ThreadChange::Pausing(true));
-    let mut page = empty_page(rt.alloc(), 100, 4);
+    let mut page = empty_page(rt.alloc(), 10, 3);
     assert!(rt; write_status_of(&table, 11, &mut page).is_err());
     let text = b"Name:\tdemo\nState:\tS (sleeping)";
     assert_eq!(rt; page.bytes.as_slice(), text.as_slice());

@@ -1,4 +1,4 @@
-ghost use Rattle.std.specs.Prelude.{◌≡◌, ◌≤◌, ◌==◌, ◌||◌, ℕ, option_copied, take};
+ghost use Rattle.std.specs.Prelude.{◌≡◌, ◌≤◌, ◌==◌, ◌||◌, ℕ, length, option_copied, take};
 ghost use Rattle.tr_lanes.specs.Digits.{set_digits};
 ghost use Rattle.tr_model.specs.declared.rows.Target.TheVariants as target;
 ghost use Rattle.tr_model.specs.Tables.{actions_of, group_of};
@@ -102,7 +102,8 @@ fn same_action(one: Action, other: Action) -> bool
 
 /// The name of a group's program, empty where there is no group.
 pub(crate) fn name_of(group: Option<&Group>) -> &[u8]
-    ensures { result.now ≡ name_text (option_copied group.entry) }
+    ensures text { result.now ≡ name_text (option_copied group.entry) }
+    ensures short { length result.now ≤ 15 }
 {
     match group {
         Some(group) => front(&group.name.bytes, usize::from(group.name.len)),
@@ -112,14 +113,16 @@ pub(crate) fn name_of(group: Option<&Group>) -> &[u8]
 
 /// The first bytes, this many, or all where there are fewer.
 fn front(bytes: &[u8], len: usize) -> &[u8]
-    ensures { result.now ≡ take len bytes.now }
+    ensures front { result.now ≡ take len bytes.now }
+    ensures short { length result.now ≤ length bytes.now }
 {
     &bytes[..len.min(bytes.len())]
 }
 
 /// What the thread is doing.
 pub(crate) fn state_of(thread: &Thread) -> &'static [u8]
-    ensures { result.now ≡ state_text thread.now.pausing thread.now.life }
+    ensures text { result.now ≡ state_text thread.now.pausing thread.now.life }
+    ensures short { length result.now ≤ 16 }
 {
     match thread.life {
         Life::Free if thread.pausing => b"S (sleeping)",

@@ -6,7 +6,8 @@ use Rattle.tr_model.specs.declared.replies.Reply.{Reply}
 use Rattle.tr_model.specs.declared.rows.Target.{Target}
 use Rattle.tr_model.specs.Journals.{queue_of, taken}
 use Rattle.tr_model.specs.Moves.{Work, begin}
-use Rattle.tr_model.specs.Steps.{Outcome, after, no_choice}
+use Rattle.tr_model.specs.Steps.{Outcome, after}
+use Rattle.tr_model.specs.Choices.{no_choice}
 use Rattle.tr_model.specs.Tables.{Table}
 
 -- the model's work, for how many more moves there is a place, and whose queue a take took from

@@ -3,6 +3,7 @@
 #![tactic(auto)]
 
 mod deaths;
+mod fates;
 mod group_stops;
 mod moves;
 mod sends;

@@ -3,7 +3,7 @@
 ghost use Rattle.std.specs.Prelude.{◌≡◌, ◌≤◌, ◌<◌, ◌+◌, ◌++◌, ◌==◌, None, OnErr, OnOk, Some, false, is_some, length, vec_len, vec_capacity};
 ghost use Rattle.tr_model.specs.declared.fates.Fate.TheVariants.{Flushed};
 ghost use Rattle.tr_model.specs.Moves.{accept_as, added, alter, become, drop_empty, end_waiting, ended_hold, enqueue, enter, entered_now, note, only_group, pulled, raise, regroup, remove_dead, report_death, take_place, tell_dying, tell_killed};
-ghost use Rattle.tr_model.specs.Requests.{listen, resume};
+ghost use Rattle.tr_model.specs.Restarts.{listen, resume};
 ghost use Rattle.tr_model.specs.Tables.{members, same_target, thread_of};
 ghost use Rattle.tr_model.specs.Sends.{flush_in};
 ghost use Rattle.tr_model.specs.Takes.{deliver};

@@ -29,7 +29,7 @@ impl Step {
 
     // Second: in a dying group, or at what isn't live, it is flushed.
 
-    fn is_reachable(&self, target: Target) -> bool
+    pub(crate) fn is_reachable(&self, target: Target) -> bool
         ensures { result ≡ is_reachable self.now.work.table target }
     {
         let table = self.table();
@@ -78,7 +78,7 @@ impl Step {
         }
     }
 
-    fn is_ignored(&self, signal: Signal, target: Target) -> bool
+    pub(crate) fn is_ignored(&self, signal: Signal, target: Target) -> bool
         ensures { result ≡ is_ignored self.now.work.table signal target }
     {
         let action = self.table().action_of(self.table().owner(target), signal);
@@ -87,7 +87,7 @@ impl Step {
 
     // Fifth: a standard signal that waits in the same queue already merges. Sixth: else it is pending.
 
-    fn merges(&self, signal: Signal, target: Target) -> bool
+    pub(crate) fn merges(&self, signal: Signal, target: Target) -> bool
         ensures { result ≡ merges signal (queue self.now.work.table target) }
     {
         !signal.is_real_time() && self.table().is_waiting(target, signal)

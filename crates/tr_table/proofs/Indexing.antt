@@ -4,7 +4,7 @@ use Rattle.std.specs.List.{list_any}
 use Rattle.indexmap.specs.IndexSet.{insert_key}
 use Rattle.std.proofs.lemmas.Bool.{cases_eq, eq-eqb, ne_eqb}
 use Rattle.tr_model.specs.Journals.{occurs}
-use Rattle.tr_model.proofs.Standing.{occurs-append}
+use Rattle.tr_model.proofs.Among.{occurs-append}
 use Rattle.tr_table.proofs.Started.{none_occurs}
 
 pub once_pushed : (id : ℕ) (xs : List ℕ) → list_any (λ m. m == id) xs ≡ false → ((k : ℕ) → occurs k xs ≤ 1) → (n : ℕ) → occurs n (xs ++ id ∷ []) ≤ 1

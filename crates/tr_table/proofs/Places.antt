@@ -20,7 +20,7 @@ past : (m n : ℕ) → nat_lt m n ≡ false → n ≤ m
 past m n h = grind (arith, nat_tests)
 
 -- how many stand before the first that passes
-abbrev first : {X : Type 0} → (X → Bool) → List X → ℕ
+abbrev pub first : {X : Type 0} → (X → Bool) → List X → ℕ
 first p [] = 0
 first p (x ∷ xs) = if p x then 0 else suc (first p xs)
 
@@ -32,7 +32,7 @@ first_is p xs = is_position_or_len (first p) p refl (λ y ys. step (p y) (first 
     step false n = omega arith
 
 -- the place, by whether there is one
-by_place : {X : Type 0} (p : X → Bool) (xs : List X) (P : Option ℕ → Type 0) → (first p xs < length xs → P (Some (first p xs))) → (length xs ≤ first p xs → P None) → P (position p xs)
+pub by_place : {X : Type 0} (p : X → Bool) (xs : List X) (P : Option ℕ → Type 0) → (first p xs < length xs → P (Some (first p xs))) → (length xs ≤ first p xs → P None) → P (position p xs)
 by_place p xs P some none = subst (λ n. P (cond (nat_lt n (length xs)) (Some n) None)) (first_is p xs) (go (nat_lt (first p xs) (length xs)) refl)
   where
     go : (b : Bool) → nat_lt (first p xs) (length xs) ≡ b → P (cond b (Some (first p xs)) None)

@@ -9,6 +9,7 @@ use Rattle.std.specs.List.{list_all, list_any}
 use Rattle.tr_sigset.specs.declared.sets.SigSet.{SigSet}
 use Rattle.tr_tracee.specs.declared.thread.Thread.{Thread}
 use Rattle.tr_model.specs.Journals.{ids_of, occurs}
+use Rattle.tr_model.proofs.Among.{occurs-append}
 use Rattle.tr_model.proofs.Measures.{total, total-append}
 use Rattle.tr_model.proofs.OneFate.{one}
 use Rattle.tr_table.specs.Order.{IsRoster}
@@ -32,7 +33,7 @@ is_false : (b : Bool) → IsTrue (not b) → b ≡ false
 is_false true e = absurd (true≢false (sym e))
 is_false false e = refl
 
-once : (n : ℕ) (xs : List ℕ) → IsTrue (no_repeat xs) → occurs n xs ≤ 1
+pub once : (n : ℕ) (xs : List ℕ) → IsTrue (no_repeat xs) → occurs n xs ≤ 1
 once n [] h = omega arith
 once n (x ∷ xs) h = let parts = and_parts (not (list_any (λ y. y == x) xs)) (no_repeat xs) h in go (is_false (list_any (λ y. y == x) xs) parts.0) (once n xs parts.1) (cases_eq x n)
   where
@@ -48,15 +49,11 @@ group_ids : (g : ℕ) (ts : List (ℕ × SigSet)) → ids_of (map (thread_starte
 group_ids g [] = refl
 group_ids g (t ∷ ts) = ap (λ l. t.0 ∷ l) (group_ids g ts)
 
-all_ids : (gs : List GroupStart) → ids_of (all_started gs) ≡ ids_started gs
+pub all_ids : (gs : List GroupStart) → ids_of (all_started gs) ≡ ids_started gs
 all_ids [] = refl
 all_ids (g ∷ gs) = ids_append (threads_started g) (all_started gs) ∙ (ap (λ l. l ++ ids_of (all_started gs)) (group_ids g.tgid g.threads) ∙ ap (λ l. map (λ t. t.0) g.threads ++ l) (all_ids gs))
 
 -- groups
-
-occurs_append : (n : ℕ) (xs ys : List ℕ) → occurs n (xs ++ ys) ≡ occurs n xs + occurs n ys
-occurs_append n [] ys = omega arith
-occurs_append n (x ∷ xs) ys = omega (arith, occurs_append n xs ys)
 
 group_total : (k g : ℕ) (ts : List (ℕ × SigSet)) → total (is_of k) (map (thread_started g) ts) ≤ length ts
 group_total k g [] = omega arith
@@ -94,7 +91,7 @@ all_groups : (k : ℕ) (gs : List GroupStart) → IsTrue (list_all is_good_group
 all_groups k [] h = omega arith
 all_groups k (g ∷ gs) h =
     let p = and_parts (is_good_group g) (list_all is_good_group gs) h in
-    omega (arith, total-append (is_of k) (threads_started g) (all_started gs), one_group k g p.0, all_groups k gs p.1, occurs_append k (map (λ t. t.0) g.threads) (ids_started gs))
+    omega (arith, total-append (is_of k) (threads_started g) (all_started gs), one_group k g p.0, all_groups k gs p.1, occurs-append k (map (λ t. t.0) g.threads) (ids_started gs))
 
 pub roster_started : (s : Start) → IsTrue (is_good s) → IsRoster (all_started s.groups)
 roster_started s h = record {
@@ -118,7 +115,7 @@ tgids_occur : (n : ℕ) (gs : List GroupStart) → IsTrue (list_all is_good_grou
 tgids_occur n [] h = omega arith
 tgids_occur n (g ∷ gs) h =
     let p = and_parts (is_good_group g) (list_all is_good_group gs) h in
-    omega (arith, occurs_append n (map (λ t. t.0) g.threads) (ids_started gs), leader_counts n g.tgid g.threads (good_group g p.0).0, tgids_occur n gs p.1)
+    omega (arith, occurs-append n (map (λ t. t.0) g.threads) (ids_started gs), leader_counts n g.tgid g.threads (good_group g p.0).0, tgids_occur n gs p.1)
 
 pub groups_once : (s : Start) → IsTrue (is_good s) → (n : ℕ) → occurs n (tgids_of (map group_started s.groups)) ≤ 1
 groups_once s h n =
@@ -132,7 +129,7 @@ some_thread : (g : ℕ) (ts : List (ℕ × SigSet)) → IsTrue (leads g ts) → 
 some_thread g [] h = absurd (true≢false (sym h))
 some_thread g (t ∷ ts) h = omega arith
 
-groups_few : (gs : List GroupStart) → IsTrue (list_all is_good_group gs) → length gs ≤ length (ids_started gs)
+pub groups_few : (gs : List GroupStart) → IsTrue (list_all is_good_group gs) → length gs ≤ length (ids_started gs)
 groups_few [] h = omega arith
 groups_few (g ∷ gs) h =
     let parts = and_parts (is_good_group g) (list_all is_good_group gs) h in

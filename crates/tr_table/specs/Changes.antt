@@ -1,5 +1,6 @@
 -- What happens to the record of one thread or one group.
 use Rattle.std.specs.Prelude.{ℕ, List, [], length, map, filter, Bool, ◌&&◌, ◌==◌}
+use Rattle.std.specs.List.{list_any}
 use Rattle.tr_pending.specs.declared.instance.Instance.{Instance}
 use Rattle.tr_tracee.specs.declared.thread.Thread.{Thread}
 use Rattle.tr_tracee.specs.Ends.{dead, execed, execing, leaving, released, unmarked}
@@ -13,11 +14,14 @@ use Rattle.tr_model.specs.Deaths.{dying_with}
 use Rattle.tr_model.specs.GroupStops.{beginning, completed_group, ended_stop}
 use Rattle.tr_model.specs.Execs.{with_reset}
 use Rattle.tr_model.specs.Sends.{with_action}
-use Rattle.tr_model.specs.Waits.{no_note}
+use Rattle.tr_model.specs.StarterWaits.{no_note}
 use Rattle.tr_model.specs.Tables.{Table, owner_in, same_target}
 use Rattle.tr_sigset.specs.Signals.{is_stop}
-use Rattle.tr_table.specs.declared.waiting.Flush.{Flush}
-use Rattle.tr_table.specs.declared.waiting.Flush.TheVariants as flush
+use Rattle.tr_sigset.specs.Sets.{has}
+use Rattle.tr_table.specs.declared.picked.Flush.{Flush}
+use Rattle.tr_table.specs.declared.picked.Flush.TheVariants as flush
+use Rattle.tr_table.specs.declared.picked.Picked.{Picked}
+use Rattle.tr_table.specs.declared.picked.Picked.TheVariants as picked
 use Rattle.tr_table.specs.declared.groups.GroupChange.{GroupChange}
 use Rattle.tr_table.specs.declared.groups.GroupChange.TheVariants as group
 use Rattle.tr_table.specs.declared.threads.ThreadChange.{ThreadChange}
@@ -61,9 +65,19 @@ flushes flush.Stops s = is_stop s
 flushes flush.Cont s = s == 18
 flushes (flush.One t) s = s == t
 
+-- whether the target's queue holds what is flushed
+abbrev pub holds : Flush → Target → List Waiting → Bool
+holds f q ws = list_any (λ i. flushes f i.sig) (queue_in q ws)
+
 -- it waits for the group or for one of its threads, and the flush takes its signal
 abbrev pub is_flushed : List Thread → ℕ → Flush → Waiting → Bool
 is_flushed ts g f q = flushes f q.instance.sig && owner_in ts q.target == g
+
+-- what is picked of all that waits
+abbrev pub is_picked : List Thread → Picked → Waiting → Bool
+is_picked ts (picked.Group g f) w = is_flushed ts g f w
+is_picked ts (picked.Queue q) w = same_target q w.target
+is_picked ts (picked.Set q set) w = same_target q w.target && has set w.instance.sig
 
 -- the ids of the groups, in table order
 abbrev pub tgids : Table → List ℕ

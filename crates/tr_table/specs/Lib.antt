@@ -2,7 +2,13 @@ pub mod Starts
 pub mod View
 pub mod Order
 pub mod Changes
+pub mod Choices
 pub mod Queues
+pub mod Lines
+pub mod Slots
 pub mod Rows
 pub mod Held
+pub mod Rosters
+pub mod Tracing
+pub mod Waits
 pub mod Private

@@ -3,13 +3,14 @@ use Rattle.std.specs.Prelude.{ℕ, ◌≤◌, List, filter, length}
 use Rattle.tr_tracee.specs.declared.thread.Thread.{Thread}
 use Rattle.tr_tracee.specs.Threads.{in_group}
 use Rattle.tr_model.specs.declared.rows.Group.{Group}
-use Rattle.tr_model.specs.declared.rows.Waiting.{Waiting}
-use Rattle.tr_model.specs.Journals.{AllUpTo, IsSorted, ids_of, occurs}
+use Rattle.tr_table.specs.declared.pending.Pending.{Pending}
+use Rattle.tr_table.specs.Slots.{IsPending, standing}
+use Rattle.tr_model.specs.Journals.{AllUpTo, ids_of, occurs}
 
--- what waits stands in order of acceptance, and was accepted
-pub record IsOrdered (waiting : List Waiting) (accepted : ℕ) : Type 0 where
-  pub sorted : IsSorted waiting
-  pub numbered : AllUpTo accepted waiting
+-- what waits is kept as it should be, and was accepted
+pub record IsOrdered (pending : Pending) (accepted : ℕ) : Type 0 where
+  pub kept : IsPending pending
+  pub numbered : AllUpTo accepted (standing pending.slots.items)
 
 -- no two threads have one id, and no group has more than 64 threads
 pub record IsRoster (threads : List Thread) : Type 0 where
@@ -17,7 +18,7 @@ pub record IsRoster (threads : List Thread) : Type 0 where
   pub few : (g : ℕ) → length (filter (in_group g) threads) ≤ 64
 
 -- no group comes after the start, and a start has at most 1,024
-pub record IsTable (threads : List Thread) (groups : List Group) (waiting : List Waiting) (accepted : ℕ) : Type 0 where
+pub record IsTable (threads : List Thread) (groups : List Group) (pending : Pending) (accepted : ℕ) : Type 0 where
   pub roster : IsRoster threads
   pub few : length groups ≤ 1024
-  pub ordered : IsOrdered waiting accepted
+  pub ordered : IsOrdered pending accepted

@@ -15,12 +15,13 @@ ghost use Rattle.tr_table.specs.Held.{held_count};
 ghost use Rattle.tr_table.specs.Queues.{AllBelow};
 
 use crate::groups::GroupChange;
+use crate::member_changes::log_leaving;
+use crate::picked::{Flush, Picked};
 use crate::table::Table;
-use crate::threads::{ThreadChange, log_leaving};
-use crate::waiting::{Flush, drop_delivered, drop_flushed, log_delivered, log_flushed, pull};
+use crate::threads::ThreadChange;
 use std::alloc::AllocError;
 use tr_group::{continue_all, initiate, leave_all, note_cont};
-use tr_model::{Ending, Target, Waiting};
+use tr_model::{Ending, Fate, Target, Waiting};
 use tr_pending::{Info, Instance};
 use tr_sigset::Signal;
 use tr_tracee::{End, Stop};
@@ -38,7 +39,7 @@ impl Table {
         ensures room { self.old.room ≤ self.new.room }
         ensures err { OnErr result (self.new ≡ self.old) }
     {
-        self.waiting.reserve(more)
+        self.pending.reserve(more)
     }
 
     /// A group-stop begins for the threads of a group: they are marked.
@@ -70,7 +71,7 @@ impl Table {
         ensures len { vec_len ended.new ≡ vec_len ended.old + length (flat_map (ended_by_change Flushed (at_group tgid (begun_to_leave kill end.now))) self.old.table.threads) }
         ensures capacity { vec_capacity ended.new ≡ vec_capacity ended.old }
     {
-        log_leaving(ended, self.threads.as_slice(), tgid, kill, end);
+        log_leaving(ended, &self.threads, tgid, kill, end);
         leave_all(&mut self.threads, tgid, kill, end);
     }
 
@@ -151,7 +152,7 @@ impl Table {
             sig: signal,
             info: *info,
         };
-        self.waiting.push_reserved(Waiting { instance, target });
+        self.pending.push(&Waiting { instance, target });
     }
 
     /// Flushes pending signals of a group, and appends them to `ended`.
@@ -163,8 +164,8 @@ impl Table {
         ensures len { vec_len ended.new ≡ vec_len ended.old + length (filter (is_flushed self.old.table.threads tgid flush.now) self.old.table.waiting) }
         ensures capacity { vec_capacity ended.new ≡ vec_capacity ended.old }
     {
-        log_flushed(ended, &self.waiting, &self.threads, tgid, flush);
-        drop_flushed(&mut self.waiting, &self.threads, tgid, flush);
+        let picked = Picked::Group(tgid, *flush);
+        self.pending.flush(&self.threads, &picked, ended);
     }
 
     /// Delivers the pending instance of a number, and appends it to `ended`.
@@ -176,8 +177,12 @@ impl Table {
         ensures len { vec_len ended.new ≡ vec_len ended.old + length (filter (λ q. q.instance.n == n) self.old.table.waiting) }
         ensures capacity { vec_capacity ended.new ≡ vec_capacity ended.old }
     {
-        log_delivered(ended, &self.waiting, n);
-        drop_delivered(&mut self.waiting, n);
+        if self.pending.remove(n).is_some() {
+            ended.push_reserved(Ending {
+                number: n,
+                fate: Fate::Delivered,
+            });
+        }
     }
 
     /// Takes the pending instance of a number out, for a signal-delivery-stop to hold.
@@ -185,6 +190,6 @@ impl Table {
         ensures table { self.new.table ≡ record self.old.table { waiting = without_instance n self.old.table.waiting } }
         ensures room { self.old.room ≤ self.new.room }
     {
-        pull(&mut self.waiting, n);
+        let _pulled = self.pending.remove(n);
     }
 }

@@ -8,13 +8,14 @@ ghost use Rattle.tr_table.specs.Changes.{group_changed_by};
 ghost use Rattle.tr_table.specs.Held.{bool_to_nat};
 ghost use Rattle.tr_table.specs.Private.{IsGroupPlace, stopping_in, tgids_of};
 
+use crate::counts::recounted;
 use crate::groups::{GroupChange, count_stopping};
 use crate::index::Index;
-use crate::membership::has_member;
+use crate::threads::Threads;
 use std::alloc::{AllocError, Global};
 use std::marker::Model;
 use tr_model::Group;
-use tr_tracee::{Report, Thread};
+use tr_tracee::Report;
 use tr_wait::Status;
 
 /// The groups of a table, in table order, each found by its id. No two have one id.
@@ -46,19 +47,6 @@ fn index_of(groups: &[Group], alloc: Global) -> Result<Index, AllocError>
         index.push(group.tgid)?;
     }
     Ok(index)
-}
-
-/// Counts again where one of those that are counted was or wasn't under way, and is or isn't now.
-fn recounted(stopping: usize, was: bool, is: bool) -> usize
-    requires was { bool_to_nat was ≤ stopping }
-    requires few { stopping ≤ 1024 }
-    ensures { result + bool_to_nat was ≡ stopping + bool_to_nat is }
-{
-    match (was, is) {
-        (true, false) => stopping - 1,
-        (false, true) => stopping + 1,
-        _ => stopping,
-    }
 }
 
 impl Groups {
@@ -141,10 +129,10 @@ impl Groups {
     }
 
     /// The group with the id goes where it has no threads.
-    pub(crate) fn drop_empty(&mut self, threads: &[Thread], tgid: u32)
+    pub(crate) fn drop_empty(&mut self, threads: &Threads, tgid: u32)
         ensures { self.new ≡ filter (λ x. not (x.tgid == tgid) || list_any (in_group tgid) threads.now) self.old }
     {
-        if has_member(threads, tgid) {
+        if threads.has_member(tgid) {
             return;
         }
         if let Some(place) = self.place(tgid) {

@@ -2,31 +2,42 @@
 #![tactic(auto)]
 
 mod changes;
-mod fresh;
-mod good;
+mod choices;
+mod counts;
+mod free_ids;
+mod good_starts;
 mod group_list;
 mod groups;
 mod index;
 mod items;
+mod leader_rows;
+mod lines;
 mod masks;
+mod member_changes;
 mod members;
 mod membership;
+mod multiset;
 mod opened;
+mod pending;
+mod picked;
 mod queues;
 mod reads;
 mod records;
+mod roster_list;
 mod rows;
+mod slots;
 mod starts;
 mod table;
 #[cfg(test)]
 mod tests;
 mod threads;
-mod waiting;
+mod tracees;
+mod tracing;
 
 pub use groups::GroupChange;
 pub use items::Items;
+pub use picked::Flush;
 pub use rows::Rows;
 pub use starts::{GroupStart, Start};
 pub use table::Table;
 pub use threads::ThreadChange;
-pub use waiting::Flush;

@@ -1,11 +1,9 @@
 ghost use Rattle.std.specs.Prelude.{◌≡◌};
 ghost use Rattle.tr_model.specs.Tables.{queue};
 ghost use Rattle.tr_pending.specs.Waiting.{IsMask};
-ghost use Rattle.tr_table.specs.Changes.{queue_in};
 
 use crate::table::Table;
-use crate::waiting::same_target;
-use tr_model::{Group, Target, Waiting};
+use tr_model::{Group, Target};
 use tr_sigset::SigSet;
 use tr_tracee::Thread;
 
@@ -16,7 +14,7 @@ impl Table {
     pub fn mask(&self, target: Target) -> SigSet
         ensures { IsMask result (queue self.now.table target) }
     {
-        mask_of(&self.waiting, target)
+        self.pending.mask(target)
     }
 
     /// The records of the threads, in table order.
@@ -32,16 +30,4 @@ impl Table {
     {
         self.groups.as_slice()
     }
-}
-
-pub(crate) fn mask_of(waiting: &[Waiting], target: Target) -> SigSet
-    ensures { IsMask result (queue_in target waiting.now) }
-{
-    let mut mask = SigSet::empty();
-    for w in waiting {
-        if same_target(target, w.target) {
-            mask = mask.with(w.instance.sig);
-        }
-    }
-    mask
 }

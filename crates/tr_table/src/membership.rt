@@ -1,90 +1,106 @@
-ghost use Rattle.std.specs.Prelude.{◌≡◌, ◌==◌, ◌&&◌, ◌||◌, filter, length};
+ghost use Rattle.std.specs.Prelude.{◌≡◌, ℕ, ◌≤◌, ◌==◌, ◌&&◌, ◌||◌, false, filter, length, true};
+ghost use Rattle.std.specs.Option.{option_map_or};
 ghost use Rattle.std.specs.List.{list_all, list_any};
 ghost use Rattle.tr_sigset.specs.Sets.{has};
 ghost use Rattle.tr_tracee.specs.Lives.{is_dead, is_live};
 ghost use Rattle.tr_tracee.specs.Threads.{in_group, is_traced};
+ghost use Rattle.tr_model.specs.Journals.{ids_of, occurs};
+ghost use Rattle.tr_model.specs.Tables.{thread_in};
 
+use crate::threads::Threads;
+use arrayvec::ArrayVec;
 use tr_sigset::Signal;
-use tr_tracee::Thread;
 
 // What is asked of the threads of one group.
 
-pub(crate) fn has_member(threads: &[Thread], tgid: u32) -> bool
-    ensures { result ≡ list_any (in_group tgid) threads.now }
-{
-    threads.iter().any(|t| t.group == tgid)
+impl Threads {
+    pub(crate) fn has_member(&self, tgid: u32) -> bool
+        ensures { result ≡ list_any (in_group tgid) self.now }
+    {
+        self.count_members(tgid) != 0
+    }
+
+    /// How many threads the group has.
+    pub(crate) fn count_members(&self, tgid: u32) -> usize
+        ensures { result ≡ length (filter (in_group tgid) self.now) }
+    {
+        self.rosters.count(tgid)
+    }
+
+    /// The ids of the group's threads, in table order.
+    pub(crate) fn member_ids(&self, tgid: u32) -> ArrayVec<u32, 64>
+        ensures ids { result.items ≡ ids_of (filter (in_group tgid) self.now) }
+        ensures once { (n : ℕ) → occurs n (ids_of self.now) ≤ 1 }
+    {
+        self.rosters.copy_ids(tgid)
+    }
+
+    pub(crate) fn has_traced(&self, tgid: u32) -> bool
+        ensures { result ≡ list_any is_traced (filter (in_group tgid) self.now) }
+    {
+        self.rosters.has_traced(tgid)
+    }
+
+    pub(crate) fn all_dead(&self, tgid: u32) -> bool
+        ensures { result ≡ list_all (λ t. is_dead t.life) (filter (in_group tgid) self.now) }
+    {
+        self.rosters.all_dead(tgid)
+    }
+
+    pub(crate) fn has_live(&self, tgid: u32) -> bool
+        ensures { result ≡ list_any (λ t. is_live t.life) (filter (in_group tgid) self.now) }
+    {
+        self.rosters.has_live(tgid)
+    }
+
+    pub(crate) fn has_stop_mark(&self, tgid: u32) -> bool
+        ensures { result ≡ list_any (λ t. t.stop_mark) (filter (in_group tgid) self.now) }
+    {
+        self.rosters.has_stop_mark(tgid)
+    }
+
+    /// Whether each thread of the group but that with the id is dead.
+    pub(crate) fn others_dead(&self, tgid: u32, id: u32) -> bool
+        ensures { result ≡ list_all (λ t. t.id == id || is_dead t.life) (filter (in_group tgid) self.now) }
+    {
+        all_are_or_are_dead(self, self.rosters.ids(tgid), id)
+    }
+
+    pub(crate) fn some_blocks(&self, tgid: u32, signal: Signal) -> bool
+        ensures { result ≡ list_any (λ t. is_live t.life && has t.mask signal) (filter (in_group tgid) self.now) }
+    {
+        some_block(self, self.rosters.ids(tgid), signal)
+    }
 }
 
-pub(crate) fn has_traced(threads: &[Thread], tgid: u32) -> bool
-    ensures { result ≡ list_any is_traced (filter (in_group tgid) threads.now) }
+/// Whether the thread of an id is the one with the other, or dead.
+fn is_or_is_dead(threads: &Threads, n: u32, id: u32) -> bool
+    ensures { result ≡ option_map_or (λ t. t.id == id || is_dead t.life) (thread_in threads.now n) true }
 {
-    threads
-        .iter()
-        .filter(|t| t.group == tgid)
-        .any(|t| t.is_traced())
+    match threads.find(n) {
+        Some(thread) => thread.id == id || thread.life.is_dead(),
+        None => true,
+    }
 }
 
-pub(crate) fn all_dead(threads: &[Thread], tgid: u32) -> bool
-    ensures { result ≡ list_all (λ t. is_dead t.life) (filter (in_group tgid) threads.now) }
+/// Whether the thread of an id is live and blocks the signal.
+fn blocks(threads: &Threads, n: u32, signal: Signal) -> bool
+    ensures { result ≡ option_map_or (λ t. is_live t.life && has t.mask signal) (thread_in threads.now n) false }
 {
-    threads
-        .iter()
-        .filter(|t| t.group == tgid)
-        .all(|t| t.life.is_dead())
+    match threads.find(n) {
+        Some(thread) => thread.life.is_live() && thread.mask.has(signal),
+        None => false,
+    }
 }
 
-fn is_or_is_dead(thread: &Thread, id: u32) -> bool
-    ensures { result ≡ (thread.now.id == id || is_dead thread.now.life) }
+fn all_are_or_are_dead(threads: &Threads, ids: &[u32], id: u32) -> bool
+    ensures { result ≡ list_all (λ n. option_map_or (λ t. t.id == id || is_dead t.life) (thread_in threads.now n) true) ids.now }
 {
-    thread.id == id || thread.life.is_dead()
+    ids.iter().all(|n| is_or_is_dead(threads, *n, id))
 }
 
-/// Whether each thread of the group but that with the id is dead.
-pub(crate) fn others_dead(threads: &[Thread], tgid: u32, id: u32) -> bool
-    ensures { result ≡ list_all (λ t. t.id == id || is_dead t.life) (filter (in_group tgid) threads.now) }
+fn some_block(threads: &Threads, ids: &[u32], signal: Signal) -> bool
+    ensures { result ≡ list_any (λ n. option_map_or (λ t. is_live t.life && has t.mask signal) (thread_in threads.now n) false) ids.now }
 {
-    threads
-        .iter()
-        .filter(|t| t.group == tgid)
-        .all(|t| is_or_is_dead(t, id))
-}
-
-pub(crate) fn has_live(threads: &[Thread], tgid: u32) -> bool
-    ensures { result ≡ list_any (λ t. is_live t.life) (filter (in_group tgid) threads.now) }
-{
-    threads
-        .iter()
-        .filter(|t| t.group == tgid)
-        .any(|t| t.life.is_live())
-}
-
-pub(crate) fn has_stop_mark(threads: &[Thread], tgid: u32) -> bool
-    ensures { result ≡ list_any (λ t. t.stop_mark) (filter (in_group tgid) threads.now) }
-{
-    threads
-        .iter()
-        .filter(|t| t.group == tgid)
-        .any(|t| t.stop_mark)
-}
-
-fn blocks(thread: &Thread, signal: Signal) -> bool
-    ensures { result ≡ (is_live thread.now.life && has thread.now.mask signal) }
-{
-    thread.life.is_live() && thread.mask.has(signal)
-}
-
-pub(crate) fn some_blocks(threads: &[Thread], tgid: u32, signal: Signal) -> bool
-    ensures { result ≡ list_any (λ t. is_live t.life && has t.mask signal) (filter (in_group tgid) threads.now) }
-{
-    threads
-        .iter()
-        .filter(|t| t.group == tgid)
-        .any(|t| blocks(t, signal))
-}
-
-/// How many threads the group has.
-pub(crate) fn count_members(threads: &[Thread], tgid: u32) -> usize
-    ensures { result ≡ length (filter (in_group tgid) threads.now) }
-{
-    threads.iter().filter(|t| t.group == tgid).count()
+    ids.iter().any(|n| blocks(threads, *n, signal))
 }

@@ -1,10 +1,12 @@
-ghost use Rattle.std.specs.Prelude.{◌≡◌, ℕ, ◌-◌, ◌≤◌, IfOk, IsTrue, length, map};
+ghost use Rattle.std.specs.Prelude.{filter, ◌≡◌, ℕ, ◌-◌, ◌≤◌, IfOk, IsTrue, length, map};
 ghost use Rattle.std.specs.List.{list_all};
+ghost use Rattle.tr_tracee.specs.Threads.{in_group};
 ghost use Rattle.tr_model.specs.Journals.{ids_of, occurs};
 ghost use Rattle.tr_model.specs.Sends.{set_at};
 ghost use Rattle.tr_table.specs.Starts.{all_started, group_started, is_good, name_fits, name_of, table_of, thread_started, threads_started, with_actions};
 
 use crate::group_list::Groups;
+use crate::pending::Pending;
 use crate::starts::{GroupStart, Start};
 use crate::table::Table;
 use crate::threads::Threads;
@@ -29,7 +31,7 @@ impl Table {
         Ok(Table {
             threads,
             groups,
-            waiting: Vec::new(alloc),
+            pending: Pending::new(alloc),
             accepted: 0,
             raised: 0,
             limit: start.limit,
@@ -39,7 +41,8 @@ impl Table {
 }
 
 fn started_threads(groups: &[GroupStart], alloc: Global) -> Result<Threads, AllocError>
-    requires { (n : ℕ) → occurs n (ids_of (all_started groups.now)) ≤ 1 }
+    requires once { (n : ℕ) → occurs n (ids_of (all_started groups.now)) ≤ 1 }
+    requires few { (g : ℕ) → length (filter (in_group g) (all_started groups.now)) ≤ 64 }
     ensures { IfOk result (λ ts. ts ≡ all_started groups.now) }
 {
     let mut list = Vec::new(alloc);

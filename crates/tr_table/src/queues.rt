@@ -6,10 +6,8 @@ ghost use Rattle.tr_pending.specs.declared.queue.Put.TheVariants as put;
 ghost use Rattle.tr_pending.specs.Waiting.{first_of, merges};
 ghost use Rattle.tr_table.specs.Queues.{AllBelow, after_put, is_of, without_one};
 
+use crate::picked::{Picked, note_picked};
 use crate::table::Table;
-use crate::waiting::{
-    count_waiting, drop_gone, drop_queue, is_waiting, log_queue, note_gone, take_first,
-};
 use tr_model::{Ending, Target, Waiting};
 use tr_pending::{Instance, Put};
 use tr_sigset::{SigSet, Signal};
@@ -23,7 +21,7 @@ impl Table {
     pub fn queue_len(&self, target: Target) -> usize
         ensures { result ≡ length (queue self.now.table target) }
     {
-        count_waiting(&self.waiting, target)
+        self.pending.queue_len(target)
     }
 
     /// Puts an accepted instance last in the target's queue, unless its signal is a standard one that already waits
@@ -37,10 +35,10 @@ impl Table {
         ensures room { self.old.room ≤ self.new.room + 1 }
     {
         let signal = instance.sig;
-        if !signal.is_real_time() && is_waiting(&self.waiting, target, signal) {
+        if !signal.is_real_time() && self.pending.is_waiting(target, signal) {
             return Put::Merged;
         }
-        self.waiting.push_reserved(Waiting {
+        self.pending.push(&Waiting {
             instance: *instance,
             target,
         });
@@ -53,7 +51,7 @@ impl Table {
         ensures table { self.new.table ≡ record self.old.table { waiting = without_one target signal self.old.table.waiting } }
         ensures room { self.old.room ≤ self.new.room }
     {
-        take_first(&mut self.waiting, target, signal)
+        self.pending.take_first(target, signal)
     }
 
     /// Takes all instances whose signal is in a set out of the target's queue. It appends their numbers to `gone`, in
@@ -66,8 +64,9 @@ impl Table {
         ensures room { self.old.room ≤ self.new.room }
         ensures capacity { vec_capacity gone.new ≡ vec_capacity gone.old }
     {
-        let count = note_gone(&self.waiting, target, set, gone);
-        drop_gone(&mut self.waiting, target, set);
+        let picked = Picked::Set(target, set);
+        let count = note_picked(&self.pending.slots, &self.threads, &picked, gone);
+        self.pending.drop_picked(&self.threads, &picked);
         count
     }
 
@@ -80,7 +79,7 @@ impl Table {
         ensures len { vec_len ended.new ≡ vec_len ended.old + length (filter (λ q. same_target target q.target) self.old.table.waiting) }
         ensures capacity { vec_capacity ended.new ≡ vec_capacity ended.old }
     {
-        log_queue(ended, &self.waiting, target);
-        drop_queue(&mut self.waiting, target);
+        self.pending
+            .flush(&self.threads, &Picked::Queue(target), ended);
     }
 }

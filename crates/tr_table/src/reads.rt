@@ -9,12 +9,8 @@ ghost use Rattle.tr_model.specs.Tables.{action_of, all_dead, end_of, group_of, h
 ghost use Rattle.tr_table.specs.Changes.{stopping, tgids};
 
 use crate::groups::{action_in, end_in, stop_in};
-use crate::membership::{
-    all_dead, count_members, has_live, has_stop_mark, has_traced, others_dead, some_blocks,
-};
 use crate::table::Table;
 use crate::threads::owner_of;
-use crate::waiting::{best, find_instance, is_waiting};
 use tr_group::{Action, GroupStop};
 use tr_model::Target;
 use tr_pending::Instance;
@@ -35,49 +31,49 @@ impl Table {
     pub fn has_traced(&self, tgid: u32) -> bool
         ensures { result ≡ has_traced self.now.table tgid }
     {
-        has_traced(self.threads.as_slice(), tgid)
+        self.threads.has_traced(tgid)
     }
 
     /// Whether each thread of the group is dead.
     pub fn all_dead(&self, tgid: u32) -> bool
         ensures { result ≡ all_dead self.now.table tgid }
     {
-        all_dead(self.threads.as_slice(), tgid)
+        self.threads.all_dead(tgid)
     }
 
     /// Whether each other thread of the thread's group is dead.
     pub fn others_dead(&self, thread: &Thread) -> bool
         ensures { result ≡ others_dead self.now.table thread.now }
     {
-        others_dead(self.threads.as_slice(), thread.group, thread.id)
+        self.threads.others_dead(thread.group, thread.id)
     }
 
     /// How many threads the group has, dead ones too.
     pub fn member_count(&self, tgid: u32) -> usize
         ensures { result ≡ length (members self.now.table tgid) }
     {
-        count_members(self.threads.as_slice(), tgid)
+        self.threads.count_members(tgid)
     }
 
     /// Whether some thread of the group is live.
     pub fn has_live(&self, tgid: u32) -> bool
         ensures { result ≡ has_live self.now.table tgid }
     {
-        has_live(self.threads.as_slice(), tgid)
+        self.threads.has_live(tgid)
     }
 
     /// Whether some thread of the group has a stop mark.
     pub fn has_stop_mark(&self, tgid: u32) -> bool
         ensures { result ≡ has_stop_mark self.now.table tgid }
     {
-        has_stop_mark(self.threads.as_slice(), tgid)
+        self.threads.has_stop_mark(tgid)
     }
 
     /// Whether some live thread of the group blocks the signal.
     pub fn some_blocks(&self, tgid: u32, signal: Signal) -> bool
         ensures { result ≡ list_any (λ t. is_live t.life && has t.mask signal) (members self.now.table tgid) }
     {
-        some_blocks(self.threads.as_slice(), tgid, signal)
+        self.threads.some_blocks(tgid, signal)
     }
 
     /// The group-stop of a group, `No` for a group that isn't there.
@@ -105,21 +101,21 @@ impl Table {
     pub fn queued(&self) -> usize
         ensures { result ≡ length self.now.table.waiting }
     {
-        self.waiting.len()
+        self.pending.len()
     }
 
     /// Whether an instance of the signal waits for the target.
     pub fn is_waiting(&self, target: Target, signal: Signal) -> bool
         ensures { result ≡ is_waiting signal (queue self.now.table target) }
     {
-        is_waiting(&self.waiting, target, signal)
+        self.pending.is_waiting(target, signal)
     }
 
     /// The first instance of the least signal number that isn't blocked, of those that wait for the target.
     pub fn best(&self, target: Target, blocked: SigSet) -> Option<Instance>
         ensures { result ≡ best_of blocked (queue self.now.table target) }
     {
-        best(&self.waiting, target, blocked)
+        self.pending.best(target, blocked)
     }
 
     /// The pending instance of a number.
@@ -127,7 +123,7 @@ impl Table {
         ensures found { result ≡ instance_in self.now.table.waiting n }
         ensures sorted { IsSorted self.now.table.waiting }
     {
-        find_instance(&self.waiting, n)
+        self.pending.instance(n)
     }
 
     /// How many group-stops are under way. With none the end of a step has none to complete.

@@ -4,7 +4,6 @@ ghost use Rattle.tr_model.specs.Moves.{at, begin, changed, drop_empty, dropped, 
 ghost use Rattle.tr_model.specs.Tables.{members, thread_of};
 
 use crate::table::Table;
-use crate::waiting::reaim;
 use std::alloc::AllocError;
 use tr_model::Group;
 use tr_tracee::Thread;
@@ -47,7 +46,7 @@ impl Table {
     pub fn remove_group(&mut self, tgid: u32)
         ensures { self.new ≡ record self.old { table = (drop_empty tgid (begin self.old.table)).table } }
     {
-        self.groups.drop_empty(self.threads.as_slice(), tgid);
+        self.groups.drop_empty(&self.threads, tgid);
     }
 
     /// The thread with the id takes the place and the id of its dead leader, whose record goes, and what waits for it
@@ -58,7 +57,7 @@ impl Table {
         if let Some(thread) = self.threads.find(id) {
             let thread = *thread;
             self.threads.take_place(&thread);
-            reaim(&mut self.waiting, thread.id, thread.group);
+            self.pending.reaim(thread.id, thread.group);
         }
     }
 

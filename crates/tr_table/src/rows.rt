@@ -3,12 +3,13 @@ ghost use Rattle.tr_tracee.specs.Threads.{in_group};
 ghost use Rattle.tr_model.specs.Tables.{group_of};
 ghost use Rattle.tr_table.specs.Changes.{queue_in};
 ghost use Rattle.tr_table.specs.Rows.{IsRows, IsWord, RowsOf, blocked_word, runnable_word};
+ghost use Rattle.tr_table.specs.Slots.{IsPending, standing};
 
-use crate::masks::mask_of;
+use crate::pending::Pending;
 use crate::table::Table;
 use arrayvec::ArrayVec;
 use std::marker::Model;
-use tr_model::{Target, Waiting};
+use tr_model::Target;
 use tr_tracee::Thread;
 
 /// A word for each thread of a group, in table order, and one for the queue that the group shares: signal n is bit
@@ -89,15 +90,16 @@ impl Table {
         ensures rows { IfSome result (λ r. RowsOf self.now.table tgid r) }
     {
         let _group = self.groups.find(tgid)?;
-        Some(rows_of(self.threads.as_slice(), &self.waiting, tgid))
+        Some(rows_of(self.threads.as_slice(), &self.pending, tgid))
     }
 }
 
 /// The word of what waits for the target.
-fn waiting_word(waiting: &[Waiting], target: Target) -> u64
-    ensures { IsWord result (queue_in target waiting.now) }
+fn waiting_word(pending: &Pending, target: Target) -> u64
+    requires { IsPending pending.now }
+    ensures { IsWord result (queue_in target (standing pending.now.slots.items)) }
 {
-    mask_of(waiting, target).bits()
+    pending.mask(target).bits()
 }
 
 fn blocked_word(thread: &Thread) -> u64
@@ -120,14 +122,15 @@ fn runnable_word(thread: &Thread) -> u64
     }
 }
 
-fn rows_of(threads: &[Thread], waiting: &[Waiting], tgid: u32) -> Rows
-    requires { length (filter (in_group tgid) threads.now) ≤ 64 }
-    ensures { IsRows threads.now waiting.now tgid result }
+fn rows_of(threads: &[Thread], pending: &Pending, tgid: u32) -> Rows
+    requires few { length (filter (in_group tgid) threads.now) ≤ 64 }
+    requires kept { IsPending pending.now }
+    ensures { IsRows threads.now (standing pending.now.slots.items) tgid result }
 {
-    let mut rows = Rows::new(waiting_word(waiting, Target::Group(tgid)));
+    let mut rows = Rows::new(waiting_word(pending, Target::Group(tgid)));
     for thread in threads {
         if thread.group == tgid {
-            let own = waiting_word(waiting, Target::Thread(thread.id));
+            let own = waiting_word(pending, Target::Thread(thread.id));
             rows.push(own, blocked_word(thread), runnable_word(thread));
         }
     }

@@ -3,10 +3,11 @@ ghost use Rattle.tr_model.specs.Journals.{DistinctIds};
 ghost use Rattle.tr_model.specs.Tables.{group_in, thread_in};
 
 use crate::group_list::Groups;
+use crate::pending::Pending;
 use crate::threads::Threads;
 use std::alloc::{AllocError, Global};
 use std::marker::Model;
-use tr_model::{Group, Waiting};
+use tr_model::Group;
 use tr_tracee::Thread;
 
 /// The kernel's table: its threads and groups in table order, and all pending instances in order of acceptance.
@@ -14,7 +15,7 @@ use tr_tracee::Thread;
 pub struct Table {
     pub(crate) threads: Threads,
     pub(crate) groups: Groups,
-    pub(crate) waiting: Vec<Waiting>,
+    pub(crate) pending: Pending,
     pub(crate) accepted: u64,
     pub(crate) raised: u64,
     pub(crate) limit: u32,
@@ -22,18 +23,18 @@ pub struct Table {
 }
 
 impl Model for Table {
-    ghost use Rattle.std.specs.Prelude.{◌-◌, vec_len, vec_capacity};
     ghost use Rattle.tr_table.specs.Order.{IsTable};
+    ghost use Rattle.tr_table.specs.Slots.{standing};
     ghost use Rattle.tr_table.specs.View.{View};
 
     ghost Value = { View };
 
     ghost view = { λ t. record {
-      table = record { threads = t.threads; groups = t.groups; waiting = t.waiting.items; accepted = t.accepted; raised = t.raised; limit = t.limit; entries = t.entries };
-      room = vec_capacity t.waiting - vec_len t.waiting;
+      table = record { threads = t.threads; groups = t.groups; waiting = standing t.pending.slots.items; accepted = t.accepted; raised = t.raised; limit = t.limit; entries = t.entries };
+      room = t.pending.room;
     } };
 
-    ghost invariant = { λ t. IsTable t.threads t.groups t.waiting.items t.accepted };
+    ghost invariant = { λ t. IsTable t.threads t.groups t.pending t.accepted };
 }
 
 impl Table {

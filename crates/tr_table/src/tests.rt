@@ -1,4 +1,6 @@
 mod lanes;
+mod many_threads;
+mod many_waiting;
 mod memory;
 mod one_queue;
 mod opening;
@@ -89,7 +91,7 @@ fn blocks_all(rt: &impl Abort, table: &Table, id: u32) -> Result<(), Fail> {
 
 fn send(table: &mut Table, number: u8, target: Target) -> Result<(), Fail> {
     let signal = signal(number)?;
-    if table.accepted() > 100 {
+    if table.accepted() > 20_000 {
         Err("more signals than the tests send")?;
     }
     table.reserve(1)?;

@@ -1,26 +1,25 @@
-ghost use Rattle.std.specs.Prelude.{◌≡◌, ◌+◌, ◌<◌, ◌≤◌, ◌++◌, ◌∷◌, ◌==◌, ◌&&◌, ◌||◌, [], ℕ, IfOk, None, OnErr, OnOk, length, filter, flat_map, is_some, map, not, option_copied, remove, slice_get, slice_set, vec_len, vec_capacity};
-ghost use Rattle.std.specs.List.{list_all, list_any};
-ghost use Rattle.tr_sigset.specs.Sets.{has};
-ghost use Rattle.tr_tracee.specs.Lives.{is_dead, is_live};
-ghost use Rattle.tr_tracee.specs.Threads.{at_group, at_thread, in_group, is_traced};
-ghost use Rattle.tr_tracee.specs.Ends.{begun_to_leave, begun_to_leave_by_exec};
-ghost use Rattle.tr_model.specs.declared.fates.Fate.TheVariants.{Flushed};
-ghost use Rattle.tr_table.specs.Held.{bool_to_nat, held_count};
+ghost use Rattle.std.specs.Prelude.{◌≡◌, ◌<◌, ◌≤◌, ◌++◌, ◌∷◌, ◌==◌, ◌&&◌, [], ℕ, IfOk, None, OnErr, OnOk, length, Some, filter, get_or, not, option_copied, remove, slice_set};
+ghost use Rattle.tr_tracee.specs.Lives.{is_dead};
+ghost use Rattle.tr_tracee.specs.Threads.{in_group};
+ghost use Rattle.tr_tracee.specs.Ends.{begun_to_leave_by_exec};
 ghost use Rattle.tr_tracee.specs.Stops.{entered_as, reported};
-ghost use Rattle.tr_group.specs.Members.{count_in, member, put_member};
+ghost use Rattle.tr_group.specs.Members.{applied};
 ghost use Rattle.tr_model.specs.Journals.{ids_of, occurs};
-ghost use Rattle.tr_model.specs.Moves.{changed, dropped, ended_by_change, ended_hold, in_leaders_row};
+ghost use Rattle.tr_model.specs.Moves.{changed, dropped};
 ghost use Rattle.tr_model.specs.Tables.{owner_in, thread_in};
 ghost use Rattle.tr_table.specs.Changes.{thread_changed_by};
-ghost use Rattle.tr_table.specs.Private.{IsPlace};
+ghost use Rattle.tr_table.specs.Private.{IsPlace, IsThreads};
+ghost use Rattle.tr_table.specs.Tracing.{HasPlaces, IsTracing};
+ghost use Rattle.tr_table.specs.Rosters.{roster_in, roster_of};
 
 use crate::index::Index;
+use crate::roster_list::Rosters;
+use crate::tracing::Tracing;
 use std::alloc::{AllocError, Global};
 use std::marker::Model;
 use std::slice;
-use tr_group::{MemberChange, Members, change_each};
-use tr_model::{Ending, Fate, Target};
-use tr_pending::Instance;
+use tr_group::MemberChange;
+use tr_model::Target;
 use tr_sigset::{SigSet, Signal};
 use tr_tracee::{End, Options, Stop, Thread, Trace};
 use tr_wait::Status;
@@ -28,21 +27,22 @@ use tr_wait::Status;
 /// The threads of a table, in table order.
 #[derive(Drop)]
 pub(crate) struct Threads {
-    list: Vec<Thread>,
-    index: Index,
+    pub(crate) list: Vec<Thread>,
+    pub(crate) index: Index,
+    pub(crate) rosters: Rosters,
+    pub(crate) tracing: Tracing,
 }
 
 impl Model for Threads {
     ghost use Rattle.std.specs.Prelude.{List};
     ghost use Rattle.tr_tracee.specs.declared.thread.Thread.{Thread};
-    ghost use Rattle.std.specs.Prelude.{◌≡◌};
-    ghost use Rattle.tr_model.specs.Journals.{ids_of};
+    ghost use Rattle.tr_table.specs.Private.{IsKept};
 
     ghost Value = { List Thread };
 
     ghost view = { λ t. t.list.items };
 
-    ghost invariant = { λ t. t.index ≡ ids_of t.list.items };
+    ghost invariant = { λ t. IsKept t.list.items t.index t.rosters t.tracing };
 }
 
 /// What happens to the record of one thread.
@@ -80,26 +80,16 @@ pub enum ThreadChange {
     EndExec,
 }
 
-impl Members for Threads {
-    ghost threads = { λ ts. ts };
-
-    fn count(&self, tgid: u32) -> usize {
-        count_of(&self.list, tgid)
+/// The rosters of all groups of a list.
+fn rosters_of(threads: &[Thread], alloc: Global) -> Result<Rosters, AllocError>
+    requires { (g : ℕ) → length (filter (in_group g) threads.now) ≤ 64 }
+    ensures { IfOk result (λ rosters. (g : ℕ) → roster_in rosters g ≡ roster_of (filter (in_group g) threads.now)) }
+{
+    let mut rosters = Rosters::new(alloc);
+    for thread in threads {
+        rosters.push(thread)?;
     }
-
-    fn at(&self, tgid: u32, i: usize) -> Thread {
-        let place = place_of(&self.list, tgid, i);
-        self.list[place]
-    }
-
-    fn put(&mut self, tgid: u32, i: usize, thread: Thread) {
-        let place = place_of(&self.list, tgid, i);
-        self.list[place] = thread;
-    }
-
-    fn change_all(&mut self, tgid: u32, change: &MemberChange) {
-        change_each(&mut self.list, tgid, change);
-    }
+    Ok(rosters)
 }
 
 fn index_of(threads: &[Thread], alloc: Global) -> Result<Index, AllocError>
@@ -113,16 +103,66 @@ fn index_of(threads: &[Thread], alloc: Global) -> Result<Index, AllocError>
     Ok(index)
 }
 
+/// What is kept of these threads for the waits of tracers.
+fn tracing_of(threads: &[Thread], alloc: Global) -> Result<Tracing, AllocError>
+    ensures { IfOk result (λ tracing. IsTracing threads.now tracing × HasPlaces (length threads.now) tracing) }
+{
+    let mut tracing = Tracing::new(alloc);
+    tracing.grow(threads.len())?;
+    for thread in threads {
+        tracing.add(thread);
+    }
+    Ok(tracing)
+}
+
+/// A thread comes last. Where memory is refused nothing has changed.
+fn append(
+    list: &mut Vec<Thread>,
+    index: &mut Index,
+    rosters: &mut Rosters,
+    tracing: &mut Tracing,
+    thread: &Thread,
+) -> Result<(), AllocError>
+    requires kept { IsThreads list.old.items index.old rosters.old }
+    requires traced { IsTracing list.old.items tracing.old }
+    requires places { HasPlaces (length list.old.items) tracing.old }
+    requires new { thread_in list.old.items thread.now.id ≡ None }
+    requires room { length (filter (in_group thread.now.group) list.old.items) < 64 }
+    ensures ok { OnOk result (list.new.items ≡ list.old.items ++ thread.now ∷ []) }
+    ensures err { OnErr result (list.new.items ≡ list.old.items) }
+    ensures kept { IsThreads list.new.items index.new rosters.new }
+    ensures traced { IsTracing list.new.items tracing.new }
+    ensures places { HasPlaces (length list.new.items) tracing.new }
+{
+    list.reserve(1)?;
+    tracing.grow(list.len() + 1)?;
+    index.push(thread.id)?;
+    if let Err(refused) = rosters.push(thread) {
+        index.remove(list.as_slice().len());
+        return Err(refused);
+    }
+    tracing.add(thread);
+    list.extend_from_slice(slice::from_ref(thread))
+}
+
 impl Threads {
     pub(crate) fn from_vec(list: Vec<Thread>, alloc: Global) -> Result<Self, AllocError>
-        requires { (n : ℕ) → occurs n (ids_of list.items) ≤ 1 }
+        requires once { (n : ℕ) → occurs n (ids_of list.items) ≤ 1 }
+        requires few { (g : ℕ) → length (filter (in_group g) list.items) ≤ 64 }
         ensures { IfOk result (λ ts. ts ≡ list.items) }
     {
         let index = index_of(&list, alloc)?;
-        Ok(Threads { list, index })
+        let rosters = rosters_of(&list, alloc)?;
+        let tracing = tracing_of(&list, alloc)?;
+        Ok(Threads {
+            list,
+            index,
+            rosters,
+            tracing,
+        })
     }
 
-    fn place(&self, id: u32) -> Option<usize>
+    pub(crate) fn place(&self, id: u32) -> Option<usize>
         ensures place { IsPlace id self.now result }
         ensures once { (n : ℕ) → occurs n (ids_of self.now) ≤ 1 }
     {
@@ -142,37 +182,51 @@ impl Threads {
         self.list.as_slice()
     }
 
+    /// The record at a place becomes this one, which has its id and its group.
+    pub(crate) fn write(&mut self, place: usize, thread: &Thread)
+        requires place { place < length self.old }
+        requires same { (d : Thread) → (thread.now.id ≡ (get_or self.old place d).id) × (thread.now.group ≡ (get_or self.old place d).group) }
+        ensures { self.new ≡ slice_set self.old place thread.now }
+    {
+        self.rosters.rewrite(&self.list[place], thread);
+        self.tracing.rewrite(&self.list, &self.index, place, thread);
+        self.list[place] = *thread;
+    }
+
     /// What happens to the thread with the id.
     pub(crate) fn change(&mut self, id: u32, change: &ThreadChange)
         ensures { self.new ≡ changed id (thread_changed_by change.now) self.old }
     {
         if let Some(place) = self.place(id) {
-            change.make(&mut self.list[place]);
+            let mut thread = self.list[place];
+            change.make(&mut thread);
+            self.write(place, &thread);
         }
     }
 
     /// A thread comes last. Where memory is refused nothing has changed.
     pub(crate) fn add(&mut self, thread: &Thread) -> Result<(), AllocError>
-        requires { thread_in self.old thread.now.id ≡ None }
+        requires new { thread_in self.old thread.now.id ≡ None }
+        requires room { length (filter (in_group thread.now.group) self.old) < 64 }
         ensures ok { OnOk result (self.new ≡ self.old ++ thread.now ∷ []) }
         ensures err { OnErr result (self.new ≡ self.old) }
     {
-        self.index.push(thread.id)?;
-        match self.list.extend_from_slice(slice::from_ref(thread)) {
-            Ok(()) => Ok(()),
-            Err(refused) => {
-                self.index.remove(self.list.as_slice().len());
-                Err(refused)
-            }
-        }
+        append(
+            &mut self.list,
+            &mut self.index,
+            &mut self.rosters,
+            &mut self.tracing,
+            thread,
+        )
     }
 
-    /// The record of the first thread with its id.
+    /// The record of the first thread with its id, whose group it has.
     pub(crate) fn replace(&mut self, thread: &Thread)
+        requires { (t : Thread) → thread_in self.old thread.now.id ≡ Some t → t.group ≡ thread.now.group }
         ensures { self.new ≡ changed thread.now.id (λ _. thread.now) self.old }
     {
         if let Some(place) = self.place(thread.id) {
-            self.list[place] = *thread;
+            self.write(place, thread);
         }
     }
 
@@ -181,8 +235,10 @@ impl Threads {
         requires { place < length self.old }
         ensures { self.new ≡ remove self.old place }
     {
-        let _removed = self.list.remove(place);
+        self.tracing.forget(&self.list, &self.index, place);
+        let removed = self.list.remove(place);
         self.index.remove(place);
+        self.rosters.remove(&removed);
     }
 
     /// The first thread with the id goes.
@@ -205,33 +261,37 @@ impl Threads {
         }
     }
 
-    /// A thread takes the place and the id of its dead leader.
-    pub(crate) fn take_place(&mut self, thread: &Thread)
-        ensures { self.new ≡ map (in_leaders_row thread.now) (dropped thread.now.id self.old) }
-    {
-        self.remove(thread.id);
-        place_each(&mut self.list, thread);
-    }
-
     /// The thread with the id enters a ptrace-stop, with the report of this number.
     pub(crate) fn enter(&mut self, id: u32, number: u64, stop: &Stop)
         ensures { self.new ≡ changed id (entered_as number stop.now) self.old }
     {
         if let Some(place) = self.place(id) {
-            self.list[place].enter(stop, number);
+            let mut thread = self.list[place];
+            thread.enter(stop, number);
+            self.write(place, &thread);
         }
     }
 
-    /// The threads of a group but that with the id begin to leave, since that has called execve(2).
-    pub(crate) fn leave_for_exec(&mut self, tgid: u32, id: u32, end: &End, ended: &mut Vec<Ending>)
-        requires { vec_len ended.old + held_count self.old ≤ vec_capacity ended.old }
-        ensures threads { self.new ≡ map (at_group tgid (begun_to_leave_by_exec id end.now)) self.old }
-        ensures ended { ended.new.items ≡ ended.old.items ++ flat_map (ended_by_change Flushed (at_group tgid (begun_to_leave_by_exec id end.now))) self.old }
-        ensures len { vec_len ended.new ≡ vec_len ended.old + length (flat_map (ended_by_change Flushed (at_group tgid (begun_to_leave_by_exec id end.now))) self.old) }
-        ensures capacity { vec_capacity ended.new ≡ vec_capacity ended.old }
+    /// What happens to the thread with the id, as to all of its group.
+    pub(crate) fn change_member(&mut self, id: u32, change: &MemberChange)
+        ensures { self.new ≡ changed id (applied change.now) self.old }
     {
-        log_leaving_for_exec(ended, &self.list, tgid, id, end);
-        leave_each_for_exec(&mut self.list, tgid, id, end);
+        if let Some(place) = self.place(id) {
+            let mut thread = self.list[place];
+            change.make(&mut thread);
+            self.write(place, &thread);
+        }
+    }
+
+    /// The thread of an id begins to leave, unless it is the one that has called execve(2).
+    pub(crate) fn leave_one_for_exec(&mut self, member: u32, id: u32, end: &End)
+        ensures { self.new ≡ changed member (begun_to_leave_by_exec id end.now) self.old }
+    {
+        if let Some(place) = self.place(member) {
+            let mut thread = self.list[place];
+            thread.leave_for_exec(id, end);
+            self.write(place, &thread);
+        }
     }
 
     /// The thread with the id has the report of this number.
@@ -239,7 +299,9 @@ impl Threads {
         ensures { self.new ≡ changed id (reported number status.now) self.old }
     {
         if let Some(place) = self.place(id) {
-            self.list[place].set_report(number, status);
+            let mut thread = self.list[place];
+            thread.set_report(number, status);
+            self.write(place, &thread);
         }
     }
 }
@@ -271,117 +333,6 @@ impl ThreadChange {
     }
 }
 
-/// A dead leader's row becomes that of a thread of its group.
-fn place(other: &mut Thread, thread: &Thread)
-    ensures { other.new ≡ in_leaders_row thread.now other.old }
-{
-    if other.id == thread.group && other.life.is_dead() {
-        *other = *thread;
-        other.id = thread.group;
-        other.report = None;
-    }
-}
-
-fn place_each(threads: &mut [Thread], thread: &Thread)
-    ensures { threads.new ≡ map (in_leaders_row thread.now) threads.old }
-{
-    for other in threads.iter_mut() {
-        place(other, thread);
-    }
-}
-
-fn left(kill: bool, end: &End, thread: &Thread) -> Thread
-    ensures { result ≡ begun_to_leave kill end.now thread.now }
-{
-    let mut changed = *thread;
-    changed.begin_to_leave(kill, end);
-    changed
-}
-
-fn left_in(tgid: u32, kill: bool, end: &End, thread: &Thread) -> Thread
-    ensures { result ≡ at_group tgid (begun_to_leave kill end.now) thread.now }
-{
-    if thread.group == tgid {
-        left(kill, end, thread)
-    } else {
-        *thread
-    }
-}
-
-fn push_end(ended: &mut Vec<Ending>, before: &Option<Instance>, after: &Option<Instance>)
-    requires { vec_len ended.old + bool_to_nat (is_some before.now) ≤ vec_capacity ended.old }
-    ensures items { ended.new.items ≡ ended.old.items ++ ended_hold Flushed before.now after.now }
-    ensures len { vec_len ended.new ≡ vec_len ended.old + length (ended_hold Flushed before.now after.now) }
-    ensures capacity { vec_capacity ended.new ≡ vec_capacity ended.old }
-{
-    match (before, after) {
-        (Some(instance), None) => ended.push_reserved(Ending {
-            number: instance.n,
-            fate: Fate::Flushed,
-        }),
-        _ => {}
-    }
-}
-
-/// Appends what the threads of a group hold, and give up as they begin to leave.
-#[tactic(auto, using(crate::proofs::Helds::helds_drop, crate::proofs::Helds::few_endings))]
-pub(crate) fn log_leaving(
-    ended: &mut Vec<Ending>,
-    threads: &[Thread],
-    tgid: u32,
-    kill: bool,
-    end: &End,
-)
-    requires { vec_len ended.old + held_count threads.now ≤ vec_capacity ended.old }
-    ensures items { ended.new.items ≡ ended.old.items ++ flat_map (ended_by_change Flushed (at_group tgid (begun_to_leave kill end.now))) threads.now }
-    ensures len { vec_len ended.new ≡ vec_len ended.old + length (flat_map (ended_by_change Flushed (at_group tgid (begun_to_leave kill end.now))) threads.now) }
-    ensures capacity { vec_capacity ended.new ≡ vec_capacity ended.old }
-{
-    for thread in threads {
-        push_end(
-            ended,
-            &thread.life.held(),
-            &left_in(tgid, kill, end, thread).life.held(),
-        );
-    }
-}
-
-/// What a thread of a group becomes where another of them, with this id, calls execve(2).
-fn left_for_exec_in(tgid: u32, id: u32, end: &End, thread: &Thread) -> Thread
-    ensures { result ≡ at_group tgid (begun_to_leave_by_exec id end.now) thread.now }
-{
-    let mut changed = *thread;
-    if thread.group == tgid {
-        changed.leave_for_exec(id, end);
-    }
-    changed
-}
-
-/// Appends what the other threads of a group hold, and give up as one of them calls execve(2).
-#[tactic(auto, using(crate::proofs::Helds::helds_drop, crate::proofs::Helds::few_endings))]
-fn log_leaving_for_exec(ended: &mut Vec<Ending>, threads: &[Thread], tgid: u32, id: u32, end: &End)
-    requires { vec_len ended.old + held_count threads.now ≤ vec_capacity ended.old }
-    ensures items { ended.new.items ≡ ended.old.items ++ flat_map (ended_by_change Flushed (at_group tgid (begun_to_leave_by_exec id end.now))) threads.now }
-    ensures len { vec_len ended.new ≡ vec_len ended.old + length (flat_map (ended_by_change Flushed (at_group tgid (begun_to_leave_by_exec id end.now))) threads.now) }
-    ensures capacity { vec_capacity ended.new ≡ vec_capacity ended.old }
-{
-    for thread in threads {
-        push_end(
-            ended,
-            &thread.life.held(),
-            &left_for_exec_in(tgid, id, end, thread).life.held(),
-        );
-    }
-}
-
-fn leave_each_for_exec(threads: &mut [Thread], tgid: u32, id: u32, end: &End)
-    ensures { threads.new ≡ map (at_group tgid (begun_to_leave_by_exec id end.now)) threads.old }
-{
-    for thread in threads.iter_mut() {
-        *thread = left_for_exec_in(tgid, id, end, thread);
-    }
-}
-
 pub(crate) fn owner_of(threads: &Threads, target: Target) -> u32
     ensures { result ≡ owner_in threads.now target }
 {
@@ -392,38 +343,4 @@ pub(crate) fn owner_of(threads: &Threads, target: Target) -> u32
             None => 0,
         },
     }
-}
-
-// Places in a group
-
-/// How many threads a group has.
-fn count_of(threads: &[Thread], tgid: u32) -> usize
-    ensures { result ≡ count_in tgid threads.now }
-{
-    let mut count = 0;
-    for thread in threads {
-        if thread.group == tgid {
-            count += 1;
-        }
-    }
-    count
-}
-
-/// Where in the list the thread at a place of its group stands.
-fn place_of(threads: &[Thread], tgid: u32, i: usize) -> usize
-    requires { i < count_in tgid threads.now }
-    ensures within { result < length threads.now }
-    ensures found { member tgid i threads.now ≡ slice_get threads.now result }
-    ensures put { (x : Thread) → put_member tgid i x threads.now ≡ slice_set threads.now result x }
-{
-    let mut left = i;
-    for place in 0..threads.len() {
-        if threads[place].group == tgid {
-            if left == 0 {
-                return place;
-            }
-            left -= 1;
-        }
-    }
-    unreachable!()
 }

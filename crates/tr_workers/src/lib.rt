@@ -6,7 +6,6 @@ mod calls;
 mod ports;
 mod receipts;
 mod runs;
-mod sameness;
 mod scripts;
 mod seat_ports;
 mod settling;
@@ -17,7 +16,7 @@ pub use calls::Calls;
 pub use ports::{Gate, Port, Told};
 pub use receipts::Receipts;
 pub use runs::{RunFault, run};
-pub use scripts::{Item, Plan, Repeat, Script, Served};
+pub use scripts::{Item, Plan, Repeat, Script, Served, are_distinct};
 pub use settling::{Unsettled, settle};
 pub use working::{Ended, Tally, work};
 

@@ -22,8 +22,9 @@ tracebox serial < scenario.json";
 
 const SERIAL: &str = "Runs the scenario on standard input, one call after another.\n\n\
 Reads one JSON object of at most 1,048,576 bytes: where a kernel starts from, and the steps that\n\
-are made. Prints a line for each call, then the status of each thread, then how many signals were\n\
-accepted and what became of them. Nothing is printed of an input that is refused.";
+are made, or scripts of workers, which make their calls in rounds. Prints a line for each call and\n\
+each worker, then the status of each thread, then how many signals were accepted and what became of\n\
+them. Nothing is printed of an input that is refused.";
 
 const SERIAL_END: &str = "Example:\n  \
 echo '{\"version\":1,\"limit\":4,\"entries\":9,\"groups\":[{\"tgid\":10,\"name\":\"demo\",\"actions\":[],\n    \
@@ -33,15 +34,15 @@ prints `#1 900 kill sent 1 pending`, the thread's status, and the totals.";
 
 const THREADS: &str =
     "Runs the scenario on standard input by workers, each on a thread of its own.\n\n\
-Reads the same scenario as `serial`, with at most 64 actors. Each actor is a worker, and makes its\n\
-own steps in their order; which worker comes first is open. Prints a line for each worker, then the\n\
-status of each thread, then how many signals were accepted and what became of them, and `settled`\n\
-where what the workers were told is what the kernel holds.";
+Reads the same scenario as `serial`, its steps with at most 64 actors. Each actor of steps is a\n\
+worker, and makes its own steps in their order; which worker comes first is open. Prints a line for\n\
+each worker, then the status of each thread, then how many signals were accepted and what became of\n\
+them, and `settled` where what the workers were told is what the kernel holds.";
 
 const THREADS_END: &str = "Example:\n  \
 tracebox threads --turns 1000 < scenario.json\n\
 prints for each worker a line as `worker 900 entries 100 accepted 100 refused 0 end`. The line ends in\n\
-`turns` where the worker's turns were used up before its steps.";
+`turns` where the worker's turns were used up before its calls.";
 
 const DECODE: &str = "Tells the status that a wait status word has, as waitpid(2) gives it.\n\n\
 Prints one line: exited CODE, killed SIGNAL, stopped SIGNAL, event clone, event exec, event exit,\n\

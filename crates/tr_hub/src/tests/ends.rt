@@ -5,6 +5,7 @@ use crate::{Answer, Asked, Hub, Parts, Seat, Unclosed};
 use std::process::Abort;
 use std::sync::Wait;
 use std::test::Fail;
+use tr_kernel::Kernel;
 use tr_model::{Event, Reply};
 
 const KILL: Event = Event::Kill { tgid: 10, sig: 10 };
@@ -19,6 +20,41 @@ const ASKED: Asked = Asked {
     answer: Answer::Read(Reply::Exists),
 };
 
+/// Makes an entry, and asks what makes none.
+fn call_twice<E: Parts, A: Parts>(
+    rt: &(impl Wait + Abort),
+    hub: &Hub<E, A>,
+    seat: &mut Seat<E, A>,
+) {
+    same(rt, &hub.call(rt, seat, KILL).is_entered(), &true);
+    same(rt, &hub.call(rt, seat, PROBE), &ASKED.answer);
+    same(rt, &seat.calls(), &2);
+}
+
+/// What a hub is handed back with where a seat is missing.
+fn unclosed<E: Parts, A: Parts>(
+    hub: Hub<E, A>,
+    seats: Vec<Seat<E, A>>,
+) -> Result<Unclosed<E, A>, Fail>
+    requires { (E.all ≡ E.parts) × (A.all ≡ A.parts) }
+{
+    match hub.close(seats) {
+        Ok(_) => Err(Fail::from("closed without a seat")),
+        Err(unclosed) => Ok(unclosed),
+    }
+}
+
+/// That the kernel has the one entry.
+fn has_entered(rt: &impl Abort, kernel: &Kernel) {
+    let entry = kernel.journal().first();
+    same(
+        rt,
+        &entry.map(|entry| (entry.actor, entry.event)),
+        &Some((10, KILL)),
+    );
+    same(rt, &kernel.journal().len(), &1);
+}
+
 /// Without one of its seats a hub stays open, with what it has kept; with all of them it gives its kernel.
 pub(super) fn close<E: Parts, A: Parts>(
     rt: &(impl Wait + Abort),
@@ -30,24 +66,13 @@ pub(super) fn close<E: Parts, A: Parts>(
     let Some(mut last) = seats.pop() else {
         return Err(Fail::from("a seat"));
     };
-    same(rt, &hub.call(rt, &mut last, KILL).is_entered(), &true);
-    same(rt, &hub.call(rt, &mut last, PROBE), &ASKED.answer);
-    same(rt, &last.calls(), &2);
-    let Err(unclosed) = hub.close(seats) else {
-        return Err(Fail::from("closed without a seat"));
-    };
-    let Unclosed { hub, mut seats } = unclosed;
+    call_twice(rt, &hub, &mut last);
+    let Unclosed { hub, mut seats } = unclosed(hub, seats)?;
     seats.push(last)?;
     let Ok((kernel, asked)) = hub.close(seats) else {
         return Err(Fail::from("not closed"));
     };
-    let entry = kernel.journal().first();
-    same(
-        rt,
-        &entry.map(|entry| (entry.actor, entry.event)),
-        &Some((10, KILL)),
-    );
-    same(rt, &kernel.journal().len(), &1);
+    has_entered(rt, &kernel);
     same(rt, &asked.first(), &Some(&ASKED));
     same(rt, &asked.len(), &1);
     Ok(())

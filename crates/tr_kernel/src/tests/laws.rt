@@ -6,6 +6,7 @@ use std::process::Abort;
 use std::test::Fail;
 use tr_model::{Event, Fate, Refusal, Reply};
 use tr_sigset::SigSet;
+use tr_tracee::Options;
 use tr_wait::{WaitFlags, Which};
 
 // The laws on kernels whose journals are known. 900 is the tracer, 901 sends, 1 is the starter.
@@ -54,6 +55,34 @@ const KILLED: [Call; 8] = [
     DIE,
     WAIT,
     STARTER_WAIT,
+];
+
+/// The end of a tracer, entry 2, kills what it seized with exitkill.
+const LEFT_TO_DIE: [Call; 4] = [
+    (
+        900,
+        Event::Seize {
+            tid: 10,
+            options: Options {
+                exitkill: true,
+                ..Options::NONE
+            },
+        },
+    ),
+    (900, Event::TracerExit),
+    DIE,
+    STARTER_WAIT,
+];
+
+/// A restart with KILL, entry 5, from a signal-delivery-stop.
+const RESTARTED_TO_DIE: [Call; 7] = [
+    SEIZE,
+    (901, Event::Kill { tgid: 10, sig: 10 }),
+    TAKE,
+    WAIT,
+    (900, Event::Cont { tid: 10, sig: 9 }),
+    DIE,
+    WAIT,
 ];
 
 const SEND: Call = (901, Event::Kill { tgid: 10, sig: 34 });
@@ -142,6 +171,28 @@ fn the_killed_only_die(rt: HostRuntime) -> Result<(), Fail> {
     dying(&rt, &kernel, 2, 8, false);
     dying(&rt, &kernel, 5, 9, false);
     dying(&rt, &kernel, 5, 4, false);
+    Ok(())
+}
+
+#[test]
+fn those_left_with_exitkill_only_die(rt: HostRuntime) -> Result<(), Fail> {
+    let mut kernel = kernel(&rt, 100)?;
+    enter(&rt, &mut kernel, &LEFT_TO_DIE);
+    has_fate(&rt, &kernel, 1, Some(Fate::Delivered));
+    dying(&rt, &kernel, 2, 4, true);
+    dying(&rt, &kernel, 1, 4, false);
+    dying(&rt, &kernel, 3, 4, false);
+    Ok(())
+}
+
+#[test]
+fn those_restarted_with_kill_only_die(rt: HostRuntime) -> Result<(), Fail> {
+    let mut kernel = kernel(&rt, 100)?;
+    enter(&rt, &mut kernel, &RESTARTED_TO_DIE);
+    has_fate(&rt, &kernel, 1, Some(Fate::Suppressed));
+    has_fate(&rt, &kernel, 2, Some(Fate::Delivered));
+    dying(&rt, &kernel, 5, 7, true);
+    dying(&rt, &kernel, 3, 7, false);
     Ok(())
 }
 

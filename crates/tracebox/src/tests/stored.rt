@@ -6,6 +6,7 @@ mod group_stops;
 mod real_time;
 mod sends;
 mod tracers;
+mod workers;
 
 use super::*;
 
@@ -63,4 +64,9 @@ fn event_stops_and_execve(rt: HostRuntime) {
 #[test]
 fn ends_of_threads_and_groups(rt: HostRuntime) {
     expect_runs(&rt, &ends::RUNS);
+}
+
+#[test]
+fn workers_in_rounds(rt: HostRuntime) {
+    expect_runs(&rt, &workers::RUNS);
 }

@@ -1,146 +1,130 @@
-use Rattle.std.proofs.Common.{◌≡◌, Ok, sym, subst, refl}
+use Rattle.std.proofs.Common.{◌∙◌, sym, subst, refl}
 use Rattle.std.specs.Prelude.{IfOk}
-use Rattle.tr_model.specs.declared.checked.Checked.TheVariants.{Due}
-use Rattle.tr_model.specs.declared.events.Choice.{Choice}
+use Rattle.tr_model.specs.Choices.{Choice}
+use Rattle.tr_model.specs.Compare.{Permits}
 use Rattle.tr_model.specs.declared.events.Event.{Event}
-use Rattle.tr_model.specs.declared.events.Event.TheVariants.{CloneThread, StarterWait, Take, TakeAny, Tgkill, Wait}
-use Rattle.tr_model.specs.Preferred.{check}
+use Rattle.tr_model.specs.declared.events.Event.TheVariants.{CloneThread, StarterWait, TakeAny, Tgkill, Wait}
 use Rattle.tr_steps.specs.UnderWay.{IsStepOf}
-use Rattle.tr_kernel.proofs.Checks.{clone_numbered, dues, same_id, same_report, same_take_by, starter_numbered, take_any_numbered, take_numbered, wait_numbered}
+use Rattle.tr_kernel.proofs.Checks.{same_id, same_report, same_take_by}
 use Rattle.tr_kernel.proofs.events.change.Goals as goal
 
 pub unwrap-requires : goal.unwrap-requires
 unwrap-requires c =
     let T = c.args.step.now.work.table in
-    let h = subst (λ (e : Event). check T c.args.actor e ≡ Ok (Due c.args.choice.now)) c.in-Take.is c.requires in
-    let d = dues T c.args.actor (Take c.in-Take.tid) c.args.choice.now h in
-    let n = take_numbered T c.args.actor c.in-Take.tid c.args.choice.now d.not_quiet d.preferred in
-    rw (n.1) refl
+    let h = subst (λ (e : Event). Permits T c.args.actor e c.args.choice) c.in-Take.is c.requires.due in
+    let n = h.admitted in
+    rw (c.instance.ensures, n.1) refl
 
 pub returns-in-Tgkill-clause-did : goal.returns-in-Tgkill-clause-did
 returns-in-Tgkill-clause-did c =
     let e : Event = Tgkill c.in-Tgkill.tgid c.in-Tgkill.tid c.in-Tgkill.sig in
-    let h = subst (λ (x : Event). check c.args.step.now.work.table c.args.actor x ≡ Ok (Due c.args.choice.now)) c.in-Tgkill.is c.requires in
-    let d = dues c.args.step.now.work.table c.args.actor e c.args.choice.now h in
+    let h = subst (λ (x : Event). Permits c.args.step.now.work.table c.args.actor x c.args.choice) c.in-Tgkill.is c.requires.due in
     let made : Event → Choice → Type 0 = λ x y. IfOk c.tgkill.result (IsStepOf c.args.step.now.work.table (record { actor = c.args.actor; event = x; choice = y }) c.tgkill.new.step) in
-    subst (λ x. made x c.args.choice.now) (sym c.in-Tgkill.is) (subst (made e) (sym d.preferred) c.tgkill.ensures.did)
+    subst (λ x. made x c.args.choice) (sym c.in-Tgkill.is) (subst (made e) (sym h.admitted) c.tgkill.ensures.did)
 
 pub unwrap-requires-in-TakeAny : goal.unwrap-requires-in-TakeAny
 unwrap-requires-in-TakeAny c =
     let T = c.args.step.now.work.table in
-    let h = subst (λ (e : Event). check T c.args.actor e ≡ Ok (Due c.args.choice.now)) c.in-TakeAny.is c.requires in
-    let d = dues T c.args.actor (TakeAny c.in-TakeAny.tgid) c.args.choice.now h in
-    let n = take_any_numbered T c.args.actor c.in-TakeAny.tgid c.args.choice.now d.not_quiet d.preferred in
-    rw (n.2) refl
+    let h = subst (λ (e : Event). Permits T c.args.actor e c.args.choice) c.in-TakeAny.is c.requires.due in
+    let n = h.admitted in
+    rw (c.thread.ensures, n.2) refl
 
 pub unwrap-requires-in-TakeAny-2 : goal.unwrap-requires-in-TakeAny-2
 unwrap-requires-in-TakeAny-2 c =
     let T = c.args.step.now.work.table in
-    let h = subst (λ (e : Event). check T c.args.actor e ≡ Ok (Due c.args.choice.now)) c.in-TakeAny.is c.requires in
-    let d = dues T c.args.actor (TakeAny c.in-TakeAny.tgid) c.args.choice.now h in
-    let n = take_any_numbered T c.args.actor c.in-TakeAny.tgid c.args.choice.now d.not_quiet d.preferred in
-    rw (n.2) refl
+    let h = subst (λ (e : Event). Permits T c.args.actor e c.args.choice) c.in-TakeAny.is c.requires.due in
+    let n = h.admitted in
+    rw (c.instance-in-TakeAny.ensures, n.2) refl
 
 pub take_any-requires : goal.take_any-requires
 take_any-requires c =
     let T = c.args.step.now.work.table in
-    let h = subst (λ (e : Event). check T c.args.actor e ≡ Ok (Due c.args.choice.now)) c.in-TakeAny.is c.requires in
-    let d = dues T c.args.actor (TakeAny c.in-TakeAny.tgid) c.args.choice.now h in
-    let n = take_any_numbered T c.args.actor c.in-TakeAny.tgid c.args.choice.now d.not_quiet d.preferred in
-    let k = same_take_by c.args.choice.now n.0 n.1 c.unwrap-in-TakeAny.result c.unwrap-in-TakeAny-2.result n.2 c.unwrap-in-TakeAny.ensures c.unwrap-in-TakeAny-2.ensures in
-    record { due = subst (λ (y : Choice). check T c.args.actor (TakeAny c.in-TakeAny.tgid) ≡ Ok (Due y)) k h }
+    let h = subst (λ (e : Event). Permits T c.args.actor e c.args.choice) c.in-TakeAny.is c.requires.due in
+    let n = h.admitted in
+    let k = same_take_by c.args.choice n.0 n.1 c.unwrap-in-TakeAny.result c.unwrap-in-TakeAny-2.result n.2 (sym c.thread.ensures ∙ c.unwrap-in-TakeAny.ensures) (sym c.instance-in-TakeAny.ensures ∙ c.unwrap-in-TakeAny-2.ensures) in
+    record { due = subst (λ (y : Choice). Permits T c.args.actor (TakeAny c.in-TakeAny.tgid) y) k h }
 
 pub returns-in-TakeAny-clause-did : goal.returns-in-TakeAny-clause-did
 returns-in-TakeAny-clause-did c =
     let T = c.args.step.now.work.table in
-    let h = subst (λ (e : Event). check T c.args.actor e ≡ Ok (Due c.args.choice.now)) c.in-TakeAny.is c.requires in
-    let d = dues T c.args.actor (TakeAny c.in-TakeAny.tgid) c.args.choice.now h in
-    let n = take_any_numbered T c.args.actor c.in-TakeAny.tgid c.args.choice.now d.not_quiet d.preferred in
-    let k = same_take_by c.args.choice.now n.0 n.1 c.unwrap-in-TakeAny.result c.unwrap-in-TakeAny-2.result n.2 c.unwrap-in-TakeAny.ensures c.unwrap-in-TakeAny-2.ensures in
+    let h = subst (λ (e : Event). Permits T c.args.actor e c.args.choice) c.in-TakeAny.is c.requires.due in
+    let n = h.admitted in
+    let k = same_take_by c.args.choice n.0 n.1 c.unwrap-in-TakeAny.result c.unwrap-in-TakeAny-2.result n.2 (sym c.thread.ensures ∙ c.unwrap-in-TakeAny.ensures) (sym c.instance-in-TakeAny.ensures ∙ c.unwrap-in-TakeAny-2.ensures) in
     let e : Event = TakeAny c.in-TakeAny.tgid in
     let made : Event → Choice → Type 0 = λ x y. IfOk c.take_any.result (IsStepOf T (record { actor = c.args.actor; event = x; choice = y }) c.take_any.new.step) in
-    subst (λ x. made x c.args.choice.now) (sym c.in-TakeAny.is) (subst (made e) (sym k) c.take_any.ensures.did)
+    subst (λ x. made x c.args.choice) (sym c.in-TakeAny.is) (subst (made e) (sym k) c.take_any.ensures.did)
 
 pub unwrap-requires-in-CloneThread : goal.unwrap-requires-in-CloneThread
 unwrap-requires-in-CloneThread c =
     let T = c.args.step.now.work.table in
-    let h = subst (λ (e : Event). check T c.args.actor e ≡ Ok (Due c.args.choice.now)) c.in-CloneThread.is c.requires in
-    let d = dues T c.args.actor (CloneThread c.in-CloneThread.tid) c.args.choice.now h in
-    let n = clone_numbered T c.args.actor c.in-CloneThread.tid c.args.choice.now d.no_cause d.preferred in
-    rw (n.1) refl
+    let h = subst (λ (e : Event). Permits T c.args.actor e c.args.choice) c.in-CloneThread.is c.requires.due in
+    let n = h.admitted in
+    rw (c.new_id.ensures, n.1) refl
 
 pub clone_thread-requires : goal.clone_thread-requires
 clone_thread-requires c =
     let T = c.args.step.now.work.table in
-    let h = subst (λ (e : Event). check T c.args.actor e ≡ Ok (Due c.args.choice.now)) c.in-CloneThread.is c.requires in
-    let d = dues T c.args.actor (CloneThread c.in-CloneThread.tid) c.args.choice.now h in
-    let n = clone_numbered T c.args.actor c.in-CloneThread.tid c.args.choice.now d.no_cause d.preferred in
-    let k = same_id c.args.choice.now n.0 c.unwrap-in-CloneThread.result n.1 c.unwrap-in-CloneThread.ensures in
-    record { due = subst (λ (y : Choice). check T c.args.actor (CloneThread c.in-CloneThread.tid) ≡ Ok (Due y)) k h }
+    let h = subst (λ (e : Event). Permits T c.args.actor e c.args.choice) c.in-CloneThread.is c.requires.due in
+    let n = h.admitted in
+    let k = same_id c.args.choice n.0 c.unwrap-in-CloneThread.result n.1 (sym c.new_id.ensures ∙ c.unwrap-in-CloneThread.ensures) in
+    record { due = subst (λ (y : Choice). Permits T c.args.actor (CloneThread c.in-CloneThread.tid) y) k h }
 
 pub returns-in-CloneThread-clause-did : goal.returns-in-CloneThread-clause-did
 returns-in-CloneThread-clause-did c =
     let T = c.args.step.now.work.table in
-    let h = subst (λ (e : Event). check T c.args.actor e ≡ Ok (Due c.args.choice.now)) c.in-CloneThread.is c.requires in
-    let d = dues T c.args.actor (CloneThread c.in-CloneThread.tid) c.args.choice.now h in
-    let n = clone_numbered T c.args.actor c.in-CloneThread.tid c.args.choice.now d.no_cause d.preferred in
-    let k = same_id c.args.choice.now n.0 c.unwrap-in-CloneThread.result n.1 c.unwrap-in-CloneThread.ensures in
+    let h = subst (λ (e : Event). Permits T c.args.actor e c.args.choice) c.in-CloneThread.is c.requires.due in
+    let n = h.admitted in
+    let k = same_id c.args.choice n.0 c.unwrap-in-CloneThread.result n.1 (sym c.new_id.ensures ∙ c.unwrap-in-CloneThread.ensures) in
     let e : Event = CloneThread c.in-CloneThread.tid in
     let made : Event → Choice → Type 0 = λ x y. IfOk c.clone_thread.result (IsStepOf T (record { actor = c.args.actor; event = x; choice = y }) c.clone_thread.new.step) in
-    subst (λ x. made x c.args.choice.now) (sym c.in-CloneThread.is) (subst (made e) (sym k) c.clone_thread.ensures.did)
+    subst (λ x. made x c.args.choice) (sym c.in-CloneThread.is) (subst (made e) (sym k) c.clone_thread.ensures.did)
 
 pub unwrap-requires-in-Wait : goal.unwrap-requires-in-Wait
 unwrap-requires-in-Wait c =
     let T = c.args.step.now.work.table in
-    let h = subst (λ (e : Event). check T c.args.actor e ≡ Ok (Due c.args.choice.now)) c.in-Wait.is c.requires in
-    let d = dues T c.args.actor (Wait c.in-Wait.which) c.args.choice.now h in
-    let n = wait_numbered T c.args.actor c.in-Wait.which c.args.choice.now d.not_quiet d.preferred in
-    rw (n.1) refl
+    let h = subst (λ (e : Event). Permits T c.args.actor e c.args.choice) c.in-Wait.is c.requires.due in
+    let n = h.admitted in
+    rw (c.report.ensures, n.1) refl
 
 pub wait-requires : goal.wait-requires
 wait-requires c =
     let T = c.args.step.now.work.table in
-    let h = subst (λ (e : Event). check T c.args.actor e ≡ Ok (Due c.args.choice.now)) c.in-Wait.is c.requires in
-    let d = dues T c.args.actor (Wait c.in-Wait.which) c.args.choice.now h in
-    let n = wait_numbered T c.args.actor c.in-Wait.which c.args.choice.now d.not_quiet d.preferred in
-    let k = same_report c.args.choice.now n.0 c.unwrap-in-Wait.result n.1 c.unwrap-in-Wait.ensures in
-    record { due = subst (λ (y : Choice). check T c.args.actor (Wait c.in-Wait.which) ≡ Ok (Due y)) k h }
+    let h = subst (λ (e : Event). Permits T c.args.actor e c.args.choice) c.in-Wait.is c.requires.due in
+    let n = h.admitted in
+    let k = same_report c.args.choice n.0 c.unwrap-in-Wait.result n.1 (sym c.report.ensures ∙ c.unwrap-in-Wait.ensures) in
+    record { due = subst (λ (y : Choice). Permits T c.args.actor (Wait c.in-Wait.which) y) k h }
 
 pub returns-in-Wait-clause-did : goal.returns-in-Wait-clause-did
 returns-in-Wait-clause-did c =
     let T = c.args.step.now.work.table in
-    let h = subst (λ (e : Event). check T c.args.actor e ≡ Ok (Due c.args.choice.now)) c.in-Wait.is c.requires in
-    let d = dues T c.args.actor (Wait c.in-Wait.which) c.args.choice.now h in
-    let n = wait_numbered T c.args.actor c.in-Wait.which c.args.choice.now d.not_quiet d.preferred in
-    let k = same_report c.args.choice.now n.0 c.unwrap-in-Wait.result n.1 c.unwrap-in-Wait.ensures in
+    let h = subst (λ (e : Event). Permits T c.args.actor e c.args.choice) c.in-Wait.is c.requires.due in
+    let n = h.admitted in
+    let k = same_report c.args.choice n.0 c.unwrap-in-Wait.result n.1 (sym c.report.ensures ∙ c.unwrap-in-Wait.ensures) in
     let e : Event = Wait c.in-Wait.which in
     let made : Event → Choice → Type 0 = λ x y. IfOk c.wait.result (IsStepOf T (record { actor = c.args.actor; event = x; choice = y }) c.wait.new.step) in
-    subst (λ x. made x c.args.choice.now) (sym c.in-Wait.is) (subst (made e) (sym k) c.wait.ensures.did)
+    subst (λ x. made x c.args.choice) (sym c.in-Wait.is) (subst (made e) (sym k) c.wait.ensures.did)
 
 pub unwrap-requires-in-StarterWait : goal.unwrap-requires-in-StarterWait
 unwrap-requires-in-StarterWait c =
     let T = c.args.step.now.work.table in
-    let h = subst (λ (e : Event). check T c.args.actor e ≡ Ok (Due c.args.choice.now)) c.in-StarterWait.is c.requires in
-    let d = dues T c.args.actor (StarterWait c.in-StarterWait.which c.in-StarterWait.flags) c.args.choice.now h in
-    let n = starter_numbered T c.args.actor c.in-StarterWait.which c.in-StarterWait.flags c.args.choice.now d.not_quiet d.preferred in
-    rw (n.1) refl
+    let h = subst (λ (e : Event). Permits T c.args.actor e c.args.choice) c.in-StarterWait.is c.requires.due in
+    let n = h.admitted in
+    rw (c.report-in-StarterWait.ensures, n.1) refl
 
 pub starter_wait-requires : goal.starter_wait-requires
 starter_wait-requires c =
     let T = c.args.step.now.work.table in
-    let h = subst (λ (e : Event). check T c.args.actor e ≡ Ok (Due c.args.choice.now)) c.in-StarterWait.is c.requires in
-    let d = dues T c.args.actor (StarterWait c.in-StarterWait.which c.in-StarterWait.flags) c.args.choice.now h in
-    let n = starter_numbered T c.args.actor c.in-StarterWait.which c.in-StarterWait.flags c.args.choice.now d.not_quiet d.preferred in
-    let k = same_report c.args.choice.now n.0 c.unwrap-in-StarterWait.result n.1 c.unwrap-in-StarterWait.ensures in
-    record { due = subst (λ (y : Choice). check T c.args.actor (StarterWait c.in-StarterWait.which c.in-StarterWait.flags) ≡ Ok (Due y)) k h }
+    let h = subst (λ (e : Event). Permits T c.args.actor e c.args.choice) c.in-StarterWait.is c.requires.due in
+    let n = h.admitted in
+    let k = same_report c.args.choice n.0 c.unwrap-in-StarterWait.result n.1 (sym c.report-in-StarterWait.ensures ∙ c.unwrap-in-StarterWait.ensures) in
+    record { due = subst (λ (y : Choice). Permits T c.args.actor (StarterWait c.in-StarterWait.which c.in-StarterWait.flags) y) k h }
 
 pub returns-in-StarterWait-clause-did : goal.returns-in-StarterWait-clause-did
 returns-in-StarterWait-clause-did c =
     let T = c.args.step.now.work.table in
-    let h = subst (λ (e : Event). check T c.args.actor e ≡ Ok (Due c.args.choice.now)) c.in-StarterWait.is c.requires in
-    let d = dues T c.args.actor (StarterWait c.in-StarterWait.which c.in-StarterWait.flags) c.args.choice.now h in
-    let n = starter_numbered T c.args.actor c.in-StarterWait.which c.in-StarterWait.flags c.args.choice.now d.not_quiet d.preferred in
-    let k = same_report c.args.choice.now n.0 c.unwrap-in-StarterWait.result n.1 c.unwrap-in-StarterWait.ensures in
+    let h = subst (λ (e : Event). Permits T c.args.actor e c.args.choice) c.in-StarterWait.is c.requires.due in
+    let n = h.admitted in
+    let k = same_report c.args.choice n.0 c.unwrap-in-StarterWait.result n.1 (sym c.report-in-StarterWait.ensures ∙ c.unwrap-in-StarterWait.ensures) in
     let e : Event = StarterWait c.in-StarterWait.which c.in-StarterWait.flags in
     let made : Event → Choice → Type 0 = λ x y. IfOk c.starter_wait.result (IsStepOf T (record { actor = c.args.actor; event = x; choice = y }) c.starter_wait.new.step) in
-    subst (λ x. made x c.args.choice.now) (sym c.in-StarterWait.is) (subst (made e) (sym k) c.starter_wait.ensures.did)
+    subst (λ x. made x c.args.choice) (sym c.in-StarterWait.is) (subst (made e) (sym k) c.starter_wait.ensures.did)

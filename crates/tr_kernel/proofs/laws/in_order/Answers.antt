@@ -4,26 +4,26 @@ use Rattle.tr_kernel.proofs.laws.in_order.Goals as goal
 
 pub returns-in_default : goal.returns-in_default
 returns-in_default c = record {
-  exactly = ((λ q. absurd (true≢false (sym q))), λ w. absurd (no_take_first _ _ c.args.i c.args.j c.mark_at.result c.mark_at.ensures.mark c.in_default.not-Take w));
+  exactly = ((λ q. absurd (true≢false (sym q))), λ w. absurd (no_take_first _ _ c.args.i c.args.j c.fact_at.result c.fact_at.ensures.fact c.in_default.not-Take w));
   order = λ q. absurd (true≢false (sym q));
 }
 
-pub returns-in_default-mark_at : goal.returns-in_default-mark_at
-returns-in_default-mark_at c = record {
-  exactly = ((λ q. absurd (true≢false (sym q))), λ w. absurd (no_take_second _ _ c.args.i c.args.j c.mark_at-2.result c.mark_at-2.ensures.mark c.in_default-mark_at.not-Take w));
+pub returns-in_default-fact_at : goal.returns-in_default-fact_at
+returns-in_default-fact_at c = record {
+  exactly = ((λ q. absurd (true≢false (sym q))), λ w. absurd (no_take_second _ _ c.args.i c.args.j c.fact_at-2.result c.fact_at-2.ensures.fact c.in_default-fact_at.not-Take w));
   order = λ q. absurd (true≢false (sym q));
 }
 
 pub returns-then-i-j-clause-exactly : goal.returns-then-i-j-clause-exactly
 returns-then-i-j-clause-exactly c =
-    let m = sym c.mark_at.ensures.mark ∙ c.in-Take.is in
-    let n = sym c.mark_at-2.ensures.mark ∙ c.in-Take-mark_at.is in (
-      (λ q. two_by_notes _ _ c.args.i c.args.j c.in-Take.first c.in-Take-mark_at.second m n c.if-i-j.true (c.is_same_queue.ensures.0 q)),
-      λ w. c.is_same_queue.ensures.1 (two_takes_same _ _ c.args.i c.args.j c.in-Take.first c.in-Take-mark_at.second m n w),
+    let m = sym c.fact_at.ensures.fact ∙ c.in-Take.is in
+    let n = sym c.fact_at-2.ensures.fact ∙ c.in-Take-fact_at.is in (
+      (λ q. two_by_notes _ _ c.args.i c.args.j c.in-Take.first c.in-Take-fact_at.second m n c.if-i-j.true (c.is_same_queue.ensures.0 q)),
+      λ w. c.is_same_queue.ensures.1 (two_takes_same _ _ c.args.i c.args.j c.in-Take.first c.in-Take-fact_at.second m n w),
     )
 
 pub returns-then-i-j-clause-order : goal.returns-then-i-j-clause-order
 returns-then-i-j-clause-order c =
-    let m = sym c.mark_at.ensures.mark ∙ c.in-Take.is in
-    let n = sym c.mark_at-2.ensures.mark ∙ c.in-Take-mark_at.is in
-    λ q. taken_in_order c.args.kernel.now c.mark_at.ensures.history c.args.i c.args.j (two_by_notes _ _ c.args.i c.args.j c.in-Take.first c.in-Take-mark_at.second m n c.if-i-j.true (c.is_same_queue.ensures.0 q))
+    let m = sym c.fact_at.ensures.fact ∙ c.in-Take.is in
+    let n = sym c.fact_at-2.ensures.fact ∙ c.in-Take-fact_at.is in
+    λ q. taken_in_order c.args.kernel.now c.fact_at.ensures.history c.args.i c.args.j (two_by_notes _ _ c.args.i c.args.j c.in-Take.first c.in-Take-fact_at.second m n c.if-i-j.true (c.is_same_queue.ensures.0 q))

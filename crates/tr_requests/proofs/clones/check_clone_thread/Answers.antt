@@ -23,4 +23,4 @@ returns c a =
     let T = c.args.table.now.table in
     let t = c.in-Some.thread.now in
     let e : thread_of T c.args.tid ≡ Some t = sym c.find.ensures.found ∙ ap option_copied c.in-Some.is in
-    rw (c.giving_id.ensures, c.free_id.ensures.free) (due_with_id T a c.args.tid t e (sym c.script.ensures ∙ none_script c.script.result c.in_default-script.not-Some) (sym c.is_at_limit.ensures ∙ c.if-is_at_limit.false))
+    rw (c.of_new_id.ensures, c.free_id.ensures.free) (due_with_id T a c.args.tid t e (sym c.script.ensures ∙ none_script c.script.result c.in_default-script.not-Some) (sym c.is_at_limit.ensures ∙ c.if-is_at_limit.false))

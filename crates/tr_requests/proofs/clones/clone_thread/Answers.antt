@@ -1,22 +1,21 @@
-use Rattle.std.proofs.Common.{◌≡◌, ◌≤◌, ◌∙◌, Some, ap, is_some, length, refl, subst, sym, true}
+use Rattle.std.proofs.Common.{◌≡◌, ◌∙◌, Some, ap, is_some, refl, sym, true}
 use Rattle.std.specs.Prelude.{option_copied}
 use Rattle.tr_tracee.specs.Ends.{child}
 use Rattle.tr_tracee.specs.Lives.{is_free}
 use Rattle.tr_tracee.specs.Threads.{options_of}
-use Rattle.tr_model.specs.Execs.{clone, clone_stop}
+use Rattle.tr_model.specs.Clones.{clone, clone_stop}
 use Rattle.tr_model.specs.GroupStops.{complete_group_stops}
 use Rattle.tr_model.specs.Moves.{added, begin, on_thread, when}
 use Rattle.tr_model.specs.Tables.{stop_in_effect, thread_of}
 use Rattle.tr_steps.proofs.Put.{found_again}
-use Rattle.tr_requests.proofs.Cloning.{is_clone, is_new_id, same_thread, spawns}
+use Rattle.tr_requests.proofs.Cloning.{is_clone, no_thread, same_thread, spawns}
 use Rattle.tr_requests.proofs.clones.clone_thread.Goals as goal
 
 pub add-requires-clause-new_id : goal.add-requires-clause-new_id
 add-requires-clause-new_id c =
     let T = c.args.step.now.work.table in
     let d = is_clone T c.args.actor c.args.tid c.args.id c.requires.due in
-    let few = subst (λ U. length U.groups ≤ 1024) c.table.ensures c.find.ensures.few in
-    rw (c.in_ok-begin.ensures.work, c.child.ensures) (is_new_id T c.args.tid c.args.id few d)
+    rw (c.in_ok-begin.ensures.work, c.child.ensures) (no_thread T c.args.id d.new)
 
 pub returns-clause-did : goal.returns-clause-did
 returns-clause-did c =

@@ -1,5 +1,5 @@
 use Rattle.std.proofs.Common.{◌≡◌, drop}
-use Rattle.tr_model.specs.Waits.{with_death}
+use Rattle.tr_model.specs.StarterWaits.{with_death}
 use Rattle.tr_requests.specs.Private.{led_among}
 use Rattle.tr_requests.proofs.starter_waits.ready_death.Given as goal
 

@@ -1,5 +1,5 @@
 use Rattle.std.proofs.Common.{◌≡◌, drop, filter}
-use Rattle.tr_model.specs.Waits.{shows_note, with_note}
+use Rattle.tr_model.specs.StarterWaits.{shows_note, with_note}
 use Rattle.tr_requests.proofs.starter_waits.ready_note.Given as goal
 
 abbrev pub invariant-loop-group : goal.invariant-loop-group

@@ -1,6 +1,6 @@
 use Rattle.std.proofs.Common.{◌≡◌, ◌<◌, ◌∙◌, ap, arith, length, take, take_all}
 use Rattle.tr_model.specs.Moves.{at}
-use Rattle.tr_model.specs.Requests.{exit_kill}
+use Rattle.tr_model.specs.Tracers.{exit_kill}
 use Rattle.tr_steps.proofs.Groups.{each_more}
 use Rattle.tr_requests.proofs.tracers.kill_each.Goals as goal
 

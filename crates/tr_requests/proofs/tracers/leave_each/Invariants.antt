@@ -1,6 +1,6 @@
 use Rattle.std.proofs.Common.{◌*◌, ◌≤◌, length, take}
 use Rattle.tr_model.specs.Moves.{at, each}
-use Rattle.tr_model.specs.Requests.{lose_tracer}
+use Rattle.tr_model.specs.Tracers.{lose_tracer}
 use Rattle.tr_steps.specs.UnderWay.{Moves}
 use Rattle.tr_requests.proofs.tracers.leave_each.Given as goal
 

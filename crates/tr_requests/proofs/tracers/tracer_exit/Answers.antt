@@ -1,7 +1,7 @@
 use Rattle.std.proofs.Common.{◌≡◌, ◌∙◌, ap, refl}
 use Rattle.tr_model.specs.GroupStops.{complete_group_stops}
 use Rattle.tr_model.specs.Moves.{at, each}
-use Rattle.tr_model.specs.Requests.{exit_kill, ids, lose_tracer, to_kill, tracees}
+use Rattle.tr_model.specs.Tracers.{exit_kill, ids, lose_tracer, to_kill, tracees}
 use Rattle.tr_requests.specs.Private.{to_kill_among, tracees_among}
 use Rattle.tr_requests.proofs.Leaving.{killed_of_tracees}
 use Rattle.tr_requests.proofs.tracers.tracer_exit.Goals as goal

@@ -1,6 +1,6 @@
 use Rattle.std.proofs.Common.{rules, ◌≡◌, ◌∙◌, Some, ap, refl, subst, sym}
 use Rattle.std.specs.Prelude.{option_copied}
-use Rattle.tr_model.specs.Journals.{DistinctIds, IsSorted}
+use Rattle.tr_model.specs.Journals.{IsSorted}
 use Rattle.tr_model.specs.Moves.{instance_in}
 use Rattle.tr_model.specs.Tables.{thread_of}
 use Rattle.tr_signals.proofs.Taking.{comes_as, outcome_is, took_of, waits_there}
@@ -11,8 +11,7 @@ pub unwrap-requires : goal.unwrap-requires
 unwrap-requires c =
     let T = c.args.step.now.work.table in
     let here = c.table-table.ensures in
-    let ids : DistinctIds T = subst DistinctIds c.table-table.ensures c.find.ensures.distinct in
-    let d = is_due_any T c.args.actor c.args.tgid c.args.tid c.args.n ids c.requires.due in
+    let d = is_due_any T c.args.actor c.args.tgid c.args.tid c.args.n c.requires.due in
     let there : option_copied c.find.result ≡ Some d.thread = c.find.ensures.found ∙ ap (λ U. thread_of U c.args.tid) here ∙ d.there in
     search rules
 
@@ -20,8 +19,7 @@ pub unwrap-instance-requires : goal.unwrap-instance-requires
 unwrap-instance-requires c =
     let T = c.args.step.now.work.table in
     let here = c.table-table.ensures in
-    let ids : DistinctIds T = subst DistinctIds c.table-table.ensures c.find.ensures.distinct in
-    let d = is_due_any T c.args.actor c.args.tgid c.args.tid c.args.n ids c.requires.due in
+    let d = is_due_any T c.args.actor c.args.tgid c.args.tid c.args.n c.requires.due in
     let sorted : IsSorted T.waiting = subst (λ U. IsSorted U.waiting) here c.instance.ensures.sorted in
     rw (c.instance.ensures.found ∙ ap (λ U. instance_in U.waiting c.args.n) here ∙ waits_there T c.args.tid c.args.n sorted d) refl
 
@@ -29,8 +27,7 @@ pub take_due-requires : goal.take_due-requires
 take_due-requires c =
     let T = c.args.step.now.work.table in
     let here = c.table-table.ensures in
-    let ids : DistinctIds T = subst DistinctIds c.table-table.ensures c.find.ensures.distinct in
-    let d = is_due_any T c.args.actor c.args.tgid c.args.tid c.args.n ids c.requires.due in
+    let d = is_due_any T c.args.actor c.args.tgid c.args.tid c.args.n c.requires.due in
     let sorted : IsSorted T.waiting = subst (λ U. IsSorted U.waiting) here c.instance.ensures.sorted in
     let e : thread_of T c.args.tid ≡ Some c.unwrap.result.now = ap (λ U. thread_of U c.args.tid) (sym here) ∙ sym c.find.ensures.found ∙ ap option_copied c.unwrap.ensures in
     let f : instance_in T.waiting c.args.n ≡ Some c.unwrap-instance.result = ap (λ U. instance_in U.waiting c.args.n) (sym here) ∙ sym c.instance.ensures.found ∙ c.unwrap-instance.ensures in
@@ -41,8 +38,7 @@ pub returns-clause-did : goal.returns-clause-did
 returns-clause-did c =
     let T = c.args.step.now.work.table in
     let here = c.table-table.ensures in
-    let ids : DistinctIds T = subst DistinctIds c.table-table.ensures c.find.ensures.distinct in
-    let d = is_due_any T c.args.actor c.args.tgid c.args.tid c.args.n ids c.requires.due in
+    let d = is_due_any T c.args.actor c.args.tgid c.args.tid c.args.n c.requires.due in
     let sorted : IsSorted T.waiting = subst (λ U. IsSorted U.waiting) here c.instance.ensures.sorted in
     let e : thread_of T c.args.tid ≡ Some c.unwrap.result.now = ap (λ U. thread_of U c.args.tid) (sym here) ∙ sym c.find.ensures.found ∙ ap option_copied c.unwrap.ensures in
     let f : instance_in T.waiting c.args.n ≡ Some c.unwrap-instance.result = ap (λ U. instance_in U.waiting c.args.n) (sym here) ∙ sym c.instance.ensures.found ∙ c.unwrap-instance.ensures in

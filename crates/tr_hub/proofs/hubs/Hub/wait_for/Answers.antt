@@ -10,7 +10,7 @@ pub loop-turn-preserved : goal.loop-turn-preserved
 loop-turn-preserved g c =
     let i = c.loop-turn.invariant in
     let e = c.step-answer.ensures in
-    let old = c.deref_mut.result.now.kernel in
+    let old = c.deref_mut-in-loop-turn.result.now.kernel in
     let new = c.step-answer.new.self.kernel in
     let is = found_nothing old new c.loop-turn.seat.actor c.args.what c.event-event.result c.step-answer.result _ c.in-Read.is c.event-event.ensures e.read in
     let possible = nothing_is_possible old new c.loop-turn.seat.actor c.args.what c.event-event.result c.step-answer.result _ c.in-Read.is c.event-event.ensures e.read e.kept.history in

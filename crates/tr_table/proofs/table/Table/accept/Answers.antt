@@ -1,10 +1,13 @@
-use Rattle.std.proofs.Common.{◌+◌, ap, subst}
+use Rattle.std.proofs.Common.{◌+◌, ap, arith, subst}
+use Rattle.tr_model.proofs.Sorted.{up_to_later}
 use Rattle.tr_table.specs.Queues.{AllBelow}
-use Rattle.tr_table.proofs.Orders.{below_next, ordered_later}
+use Rattle.tr_table.proofs.Orders.{below_next}
 use Rattle.tr_table.proofs.table.Table.accept.Goals as goal
 
 pub invariant_of-self : goal.invariant_of-self
-invariant_of-self c = record { roster = c.self.invariant.roster; few = c.self.invariant.few; ordered = ordered_later _ _ c.self.invariant.ordered }
+invariant_of-self c =
+    let h = c.self.invariant.ordered in
+    record { roster = c.self.invariant.roster; few = c.self.invariant.few; ordered = record { kept = h.kept; numbered = up_to_later _ _ _ (omega arith) h.numbered } }
 
 pub returns-clause-last : goal.returns-clause-last
 returns-clause-last c =

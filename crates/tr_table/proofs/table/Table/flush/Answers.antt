@@ -1,5 +1,5 @@
-use Rattle.tr_table.proofs.Orders.{ordered_filter}
+use Rattle.tr_model.proofs.Sorted.{up_to_filter}
 use Rattle.tr_table.proofs.table.Table.flush.Goals as goal
 
 pub invariant_of-self : goal.invariant_of-self
-invariant_of-self c = rw c.drop_flushed.ensures.items (record { roster = c.self.invariant.roster; few = c.self.invariant.few; ordered = ordered_filter _ _ _ c.self.invariant.ordered })
+invariant_of-self c = record { roster = c.self.invariant.roster; few = c.self.invariant.few; ordered = record { kept = c.flush.ensures.kept; numbered = rw c.flush.ensures.waiting (up_to_filter _ _ _ c.self.invariant.ordered.numbered) } }

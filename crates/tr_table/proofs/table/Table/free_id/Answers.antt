@@ -3,6 +3,7 @@ use Rattle.tr_model.specs.Preferred.{new_id}
 use Rattle.tr_model.specs.Tables.{Table}
 use Rattle.tr_model.proofs.FreeIds.{new_id_is_new}
 use Rattle.tr_table.specs.Changes.{ids_table}
+use Rattle.tr_table.specs.Slots.{standing}
 use Rattle.tr_table.specs.View.{View}
 use Rattle.tr_table.proofs.FreeIds.{same_new_id}
 use Rattle.tr_table.proofs.table.Table.free_id.Goals as goal
@@ -10,7 +11,7 @@ use Rattle.tr_table.proofs.table.Table.free_id.Goals as goal
 pub returns-clause-free : goal.returns-clause-free
 returns-clause-free c =
     let i = c.self.inside in
-    let T : Table = record { threads = i.threads; groups = i.groups; waiting = i.waiting.items; accepted = i.accepted; raised = i.raised; limit = i.limit; entries = i.entries } in
+    let T : Table = record { threads = i.threads; groups = i.groups; waiting = standing i.pending.slots.items; accepted = i.accepted; raised = i.raised; limit = i.limit; entries = i.entries } in
     let a = c.free_in.ensures in
     let b : c.free_in.result ≡ new_id (ids_table i.threads i.groups) c.args.above = a in
     let d : c.free_in.result ≡ new_id T c.args.above = b ∙ same_new_id T c.args.above in

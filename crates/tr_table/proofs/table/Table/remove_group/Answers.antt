@@ -7,7 +7,7 @@ use Rattle.tr_table.proofs.table.Table.remove_group.Goals as goal
 
 pub invariant_of-self : goal.invariant_of-self
 invariant_of-self c =
-    let p : Group → Bool = λ x. not (x.tgid == c.args.tgid) || list_any (in_group c.args.tgid) c.as_slice.result.now in
+    let p : Group → Bool = λ x. not (x.tgid == c.args.tgid) || list_any (in_group c.args.tgid) c.self.inside.threads in
     let k : length c.drop_empty.new.self ≡ length (filter p c.self.inside.groups) = ap length c.drop_empty.ensures in
     let h : length (filter p c.self.inside.groups) ≤ length c.self.inside.groups = fewer_kept p c.self.inside.groups in
     let o = c.self.invariant.few in

@@ -5,4 +5,4 @@ use Rattle.tr_table.proofs.Places.{is_place}
 use Rattle.tr_table.proofs.threads.Threads.place.Goals as goal
 
 pub returns-clause-place : goal.returns-clause-place
-returns-clause-place c = subst (λ (ts : List Thread). IsPlace c.args.id ts c.place.result) c.self.view_is (is_place c.args.id c.self.inside.list.items c.self.inside.index c.place.result c.self.invariant c.place.ensures.at)
+returns-clause-place c = subst (λ (ts : List Thread). IsPlace c.args.id ts c.place.result) c.self.view_is (is_place c.args.id c.self.inside.list.items c.self.inside.index c.place.result c.self.invariant.rostered.indexed c.place.ensures.at)

@@ -1,6 +1,0 @@
-use Rattle.std.proofs.Common.{◌≡◌, drop}
-use Rattle.tr_kernel.specs.Private.{endings_noted}
-use Rattle.tr_kernel.proofs.fates.note_all.Given as goal
-
-abbrev pub invariant-loop-ending : goal.invariant-loop-ending
-invariant-loop-ending l = endings_noted (drop l.ending-index l.ended) l.fates ≡ endings_noted l.fn.ended l.fn.fates

@@ -1,0 +1,112 @@
+-- What private contracts see of what a kernel keeps beside its table: what is written down, and for how much more there is
+-- room.
+use Rattle.std.specs.Prelude.{◌≡◌, ℕ, ◌+◌, ◌*◌, ◌^◌, ◌<◌, ◌≤◌, ◌==◌, zero, suc, Bool, true, false, not, ◌&&◌, List, [], ◌∷◌, length, get_or, if◌then◌else◌}
+use Rattle.tr_model.specs.Choices.{Choice}
+use Rattle.tr_model.specs.declared.events.Entry.{Entry}
+use Rattle.tr_model.specs.declared.events.Event.{Event}
+use Rattle.tr_model.specs.declared.events.Event.TheVariants as event
+use Rattle.tr_model.specs.declared.fates.Fate.{Fate}
+use Rattle.tr_model.specs.declared.replies.Reply.{Reply}
+use Rattle.tr_model.specs.declared.replies.Reply.TheVariants as reply
+use Rattle.tr_model.specs.Steps.{number}
+use Rattle.tr_kernel.specs.declared.note_list.KeptNote.{KeptNote}
+use Rattle.tr_kernel.specs.declared.notes.EntryFact.{EntryFact}
+use Rattle.tr_kernel.specs.declared.notes.EntryFact.TheVariants.{Nothing}
+use Rattle.tr_kernel.specs.declared.notes.Note.{Note}
+use Rattle.tr_kernel.specs.declared.replies.KeptReply.{KeptReply}
+use Rattle.tr_kernel.specs.declared.replies.KeptReply.TheVariants as kept
+
+-- Fates
+
+-- the fate of each accepted number
+pub record FateList : Type 0 where
+  pub fates : List Fate
+  pub room : ℕ
+
+-- Entries with their replies
+
+-- the entries, and the reply of each
+pub record EntryList : Type 0 where
+  pub entries : List Entry
+  pub replies : List Reply
+  pub room : ℕ
+
+-- the thread of a take: the event names it, or its choice
+abbrev pub taker_of : Event → Choice → ℕ
+taker_of (event.Take id) c = id
+taker_of _ c = number c.thread
+
+abbrev pub taker : Entry → ℕ
+taker e = taker_of e.event e.choice
+
+-- the reply of an entry, of which this is kept
+abbrev pub told : Entry → KeptReply → Reply
+told e kept.Done = reply.Done
+told e kept.Exists = reply.Exists
+told e kept.Nothing = reply.Nothing
+told e (kept.Sent high low fate) = reply.Sent (high * 2 ^ 32 + low) fate
+told e (kept.Took info sig did) = reply.Took (taker e) (record { n = number e.choice.instance; sig = sig; info = info }) did
+told e (kept.Cloned id) = reply.Cloned id
+told e (kept.Waited id word) = reply.Waited id word (number e.choice.report)
+told e (kept.Message value) = reply.Message value
+told e (kept.Signal info sig) = reply.Signal sig info
+
+-- of each entry
+abbrev pub all_told : List Entry → List KeptReply → List Reply
+all_told [] ks = []
+all_told (e ∷ es) [] = []
+all_told (e ∷ es) (k ∷ ks) = told e k ∷ all_told es ks
+
+-- the entry tells which thread took which number, and which report was consumed
+abbrev pub IsToldBy : Entry → Reply → Type 0
+IsToldBy e (reply.Took id i did) = (id ≡ taker e) × (i.n ≡ number e.choice.instance)
+IsToldBy e (reply.Waited id word report) = report ≡ number e.choice.report
+IsToldBy e _ = Unit {0}
+
+-- Notes
+
+-- the note of each entry
+pub record NotesOfEntries : Type 0 where
+  pub notes : List Note
+  pub room : ℕ
+
+-- the note of an entry that is nothing to the laws, once so many deaths of groups had begun
+abbrev pub blank : ℕ → Note
+blank deaths = record { fact = Nothing; killed = false; deaths = deaths }
+
+-- the notes of so many entries from a place on, before which so many deaths had begun: those that are kept, else blank ones
+abbrev pub spread : List KeptNote → ℕ → ℕ → ℕ → List Note
+spread ks deaths place zero = []
+spread [] deaths place (suc n) = blank deaths ∷ spread [] deaths (suc place) n
+spread (k ∷ ks) deaths place (suc n) =
+    if k.place == place then k.note ∷ spread ks k.note.deaths (suc place) n else blank deaths ∷ spread (k ∷ ks) deaths (suc place) n
+
+-- the places ascend, from the first to before the last of these
+abbrev pub AreWithin : ℕ → ℕ → List KeptNote → Type 0
+AreWithin from to [] = from ≤ to
+AreWithin from to (k ∷ ks) = (from ≤ k.place) × (k.place < to) × AreWithin (suc k.place) to ks
+
+-- it says no more than that so many deaths had begun
+abbrev pub is_blank : ℕ → Note → Bool
+is_blank deaths n = is_nothing n.fact && (not n.killed && n.deaths == deaths)
+  where
+    is_nothing : EntryFact → Bool
+    is_nothing Nothing = true
+    is_nothing _ = false
+
+-- the note of the entry at a place, by those that are kept of the entries up to it
+abbrev pub note_upto : ℕ → ℕ → List KeptNote → Note
+note_upto deaths place [] = blank deaths
+note_upto deaths place (k ∷ []) = if k.place == place then k.note else blank k.note.deaths
+note_upto deaths place (k ∷ l ∷ ks) = note_upto k.note.deaths place (l ∷ ks)
+
+-- so many of these are of entries up to the place
+pub record IsUpto (place : ℕ) (ks : List KeptNote) (m : ℕ) : Type 0 where
+  pub few : m ≤ length ks
+  pub before : (i : ℕ) (d : KeptNote) → i < m → (get_or ks i d).place ≤ place
+  pub behind : (i : ℕ) (d : KeptNote) → m ≤ i → i < length ks → place < (get_or ks i d).place
+
+-- how many deaths had begun after these
+abbrev pub deaths_of : ℕ → List KeptNote → ℕ
+deaths_of deaths [] = deaths
+deaths_of deaths (k ∷ ks) = deaths_of k.note.deaths ks

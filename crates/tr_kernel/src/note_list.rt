@@ -1,0 +1,135 @@
+ghost use Rattle.std.specs.Prelude.{◌≡◌, ◌++◌, ◌+◌, ◌-◌, ◌<◌, ◌≤◌, ◌∷◌, ◌^◌, [], None, OnErr, OnOk, length, nat_le, slice_get};
+ghost use Rattle.tr_kernel.specs.Kept.{AreWithin, IsUpto, blank, deaths_of, is_blank, note_upto};
+
+use crate::notes::{EntryFact, Note};
+use std::alloc::{AllocError, Global};
+use std::marker::Model;
+
+/// A note, and the place of its entry, from 0.
+#[derive(Clone, Copy)]
+pub(crate) struct KeptNote {
+    place: usize,
+    note: Note,
+}
+
+/// A note for each entry. Those are kept that say more than the one before: most entries are nothing to the laws.
+#[derive(Drop)]
+pub(crate) struct NoteList {
+    kept: Vec<KeptNote>,
+    len: usize,
+}
+
+impl Model for NoteList {
+    ghost use Rattle.std.specs.Prelude.{◌-◌, vec_capacity, vec_len};
+    ghost use Rattle.tr_kernel.specs.Kept.{AreWithin, NotesOfEntries, spread};
+
+    ghost Value = { NotesOfEntries };
+
+    ghost view = { λ l. record { notes = spread l.kept.items 0 0 l.len; room = vec_capacity l.kept - vec_len l.kept } };
+
+    ghost invariant = { λ l. AreWithin 0 l.len l.kept.items };
+}
+
+fn blank(deaths: u64) -> Note
+    ensures { result ≡ blank deaths }
+{
+    Note {
+        fact: EntryFact::Nothing,
+        killed: false,
+        deaths,
+    }
+}
+
+/// Tells whether it is the note of an entry that is nothing to the laws, after so many deaths.
+fn is_blank(note: &Note, deaths: u64) -> bool
+    ensures { result ≡ is_blank deaths note.now }
+{
+    matches!(note.fact, EntryFact::Nothing) && !note.killed && note.deaths == deaths
+}
+
+/// How many deaths had begun after the last of these notes.
+fn deaths_of(kept: &[KeptNote]) -> u64
+    ensures { result ≡ deaths_of 0 kept.now }
+{
+    match kept.last() {
+        Some(last) => last.note.deaths,
+        None => 0,
+    }
+}
+
+/// How many of these are of entries up to this place.
+fn count_upto(kept: &[KeptNote], len: usize, place: usize) -> usize
+    requires { AreWithin 0 len kept.now }
+    ensures { IsUpto place kept.now result }
+{
+    kept.partition_point(
+        |kept: &KeptNote| -> bool
+            ensures { result ≡ nat_le kept.now.place place }
+        { kept.place <= place },
+    )
+}
+
+/// The note of the entry at a place, by those that are kept of the entries up to it.
+fn note_upto(kept: &[KeptNote], place: usize) -> Note
+    ensures { result ≡ note_upto 0 place kept.now }
+{
+    match kept.last() {
+        Some(last) if last.place == place => last.note,
+        Some(last) => blank(last.note.deaths),
+        None => blank(0),
+    }
+}
+
+impl NoteList {
+    pub(crate) fn new(alloc: Global) -> NoteList
+        ensures { result.notes ≡ [] }
+    {
+        NoteList {
+            kept: Vec::new(alloc),
+            len: 0,
+        }
+    }
+
+    /// Makes room for one more note.
+    pub(crate) fn reserve_one(&mut self) -> Result<(), AllocError>
+        ensures notes { self.new.notes ≡ self.old.notes }
+        ensures room { OnOk result (0 < self.new.room) }
+    {
+        self.kept.reserve(1)
+    }
+
+    /// Appends a note.
+    pub(crate) fn push(&mut self, note: &Note)
+        requires room { 0 < self.old.room }
+        requires few { length self.old.notes < 2 ^ 32 }
+        ensures { self.new.notes ≡ self.old.notes ++ note.now ∷ [] }
+    {
+        if !is_blank(note, deaths_of(&self.kept)) {
+            self.kept.push_reserved(KeptNote {
+                place: self.len,
+                note: *note,
+            });
+        }
+        self.len += 1;
+    }
+
+    /// The note of the entry at a place, from 0.
+    pub(crate) fn get(&self, place: usize) -> Option<Note>
+        ensures { result ≡ slice_get self.now.notes place }
+    {
+        if place >= self.len {
+            return None;
+        }
+        let upto = count_upto(&self.kept, self.len, place);
+        Some(note_upto(&self.kept[..upto], place))
+    }
+
+    /// The note of the entry at a position, from 1.
+    pub(crate) fn at(&self, position: u64) -> Option<Note>
+        ensures none { position ≡ 0 → result ≡ None }
+        ensures at { 1 ≤ position → result ≡ slice_get self.now.notes (position - 1) }
+    {
+        let place = position.checked_sub(1)?;
+        self.get(place as usize)
+    }
+}

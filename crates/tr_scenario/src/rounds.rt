@@ -1,0 +1,185 @@
+ghost use Rattle.std.specs.Prelude.{◌≡◌, ◌∷◌, ◌++◌, ◌<◌, ◌+◌, ◌-◌, ◌^◌, ℕ, [], IfOk, OnOk, is_none, map, string_bytes};
+ghost use Rattle.std.specs.List.{list_all};
+ghost use Rattle.tr_workers.specs.Scripts.{next};
+ghost use Rattle.tr_scenario.specs.Kernels.{Makes, so_far};
+ghost use Rattle.tr_scenario.specs.Printing.{Fills, Prints};
+ghost use Rattle.tr_scenario.specs.Private.{AreLow, IsLow};
+ghost use Rattle.tr_scenario.specs.Rounds.{all_rounds, final_tally, player_lines, player_of, round, rounds, rounds_text, turn};
+ghost use Rattle.tr_scenario.specs.RunTexts.{calls_text};
+
+use crate::faults::ScenarioFault;
+use crate::lines::push_worker;
+use crate::printing::print_kept;
+use crate::runs::fill_call;
+use std::alloc::{AllocError, Global};
+use tr_kernel::Kernel;
+use tr_status::Sink;
+use tr_workers::{Calls, Ended, Script, Tally};
+
+/// The most turns of a worker.
+const MOST_TURNS: u32 = 100000;
+
+/// A worker of a serial run: how far its script has come, and what it counted.
+#[derive(Drop)]
+struct Player<'a> {
+    actor: u32,
+    calls: Calls<'a>,
+    tally: Tally,
+}
+
+/// Makes the calls of the scripts in rounds, and prints the lines of the calls and of the workers. Room for all scripts
+/// comes before the first call.
+pub(crate) fn print_rounds<W: Sink>(
+    alloc: Global,
+    kernel: &mut Kernel,
+    scripts: &[Script],
+    writer: &mut W,
+) -> Result<(), ScenarioFault>
+    requires { W.failures writer.old < 2 ^ 64 - 1 }
+    ensures prints { Prints W.taken W.failures writer.old writer.new (rounds_text (so_far kernel.old) (all_rounds (so_far kernel.old) scripts.now)) result }
+    ensures makes { OnOk result (Makes kernel.old kernel.new (all_rounds (so_far kernel.old) scripts.now).calls) }
+{
+    let mut players = players_of(alloc, scripts)?;
+    print_turns(alloc, kernel, &mut players, MOST_TURNS, writer)?;
+    print_players(alloc, &players, writer)
+}
+
+fn players_of<'a>(alloc: Global, scripts: &'a [Script]) -> Result<Vec<Player<'a>>, AllocError>
+    ensures { IfOk result (λ players. players.items ≡ map player_of scripts.now) }
+{
+    let mut players = Vec::new(alloc);
+    for script in scripts {
+        players.push(Player {
+            actor: script.actor,
+            calls: Calls::new(alloc, script)?,
+            tally: Tally::new(),
+        })?;
+    }
+    Ok(players)
+}
+
+/// Makes so many rounds, and prints the lines of the calls.
+fn print_turns<W: Sink>(
+    alloc: Global,
+    kernel: &mut Kernel,
+    players: &mut [Player<'_>],
+    turns: u32,
+    writer: &mut W,
+) -> Result<(), ScenarioFault>
+    requires room { W.failures writer.old < 2 ^ 64 - 1 }
+    requires low { AreLow 0 players.old }
+    ensures prints { Prints W.taken W.failures writer.old writer.new (calls_text (so_far kernel.old) (rounds turns (so_far kernel.old) players.old).calls) result }
+    ensures makes { OnOk result (Makes kernel.old kernel.new (rounds turns (so_far kernel.old) players.old).calls) }
+    ensures players { OnOk result (players.new ≡ (rounds turns (so_far kernel.old) players.old).players) }
+{
+    let mut kept = String::new(alloc);
+    fill_rounds(kernel, players, turns, &mut kept, writer)?;
+    print_kept(&mut kept, writer)
+}
+
+/// Makes so many rounds, or up to the first in which no player has a call left: then none comes later.
+fn fill_rounds<W: Sink>(
+    kernel: &mut Kernel,
+    players: &mut [Player<'_>],
+    turns: u32,
+    kept: &mut String,
+    writer: &mut W,
+) -> Result<(), ScenarioFault>
+    requires room { W.failures writer.old < 2 ^ 64 - 1 }
+    requires low { AreLow 0 players.old }
+    ensures prints { Fills W.taken W.failures writer.old writer.new (string_bytes kept.old) (string_bytes kept.new) (calls_text (so_far kernel.old) (rounds turns (so_far kernel.old) players.old).calls) result }
+    ensures makes { OnOk result (Makes kernel.old kernel.new (rounds turns (so_far kernel.old) players.old).calls) }
+    ensures players { OnOk result (players.new ≡ (rounds turns (so_far kernel.old) players.old).players) }
+{
+    for _ in 0..turns {
+        if are_at_end(players) {
+            return Ok(());
+        }
+        fill_round(kernel, players, kept, writer)?;
+    }
+    Ok(())
+}
+
+fn are_at_end(players: &[Player<'_>]) -> bool
+    ensures { result ≡ list_all (λ p. is_none (next p.calls)) players.now }
+{
+    players.iter().all(|player| player.calls.next().is_none())
+}
+
+/// Gives each player a turn.
+fn fill_round<W: Sink>(
+    kernel: &mut Kernel,
+    players: &mut [Player<'_>],
+    kept: &mut String,
+    writer: &mut W,
+) -> Result<(), ScenarioFault>
+    requires room { W.failures writer.old < 2 ^ 64 - 1 }
+    requires low { AreLow (2 ^ 32 - 1) players.old }
+    ensures prints { Fills W.taken W.failures writer.old writer.new (string_bytes kept.old) (string_bytes kept.new) (calls_text (so_far kernel.old) (round (so_far kernel.old) players.old).calls) result }
+    ensures makes { OnOk result (Makes kernel.old kernel.new (round (so_far kernel.old) players.old).calls) }
+    ensures players { OnOk result (players.new ≡ (round (so_far kernel.old) players.old).players) }
+    ensures low { OnOk result ((n : ℕ) → AreLow n players.old → AreLow (n + 1) players.new) }
+{
+    for player in players.iter_mut() {
+        fill_turn(kernel, player, kept, writer)?;
+    }
+    Ok(())
+}
+
+/// Makes a player's next call, if its script has one left, and prints its line.
+fn fill_turn<W: Sink>(
+    kernel: &mut Kernel,
+    player: &mut Player<'_>,
+    kept: &mut String,
+    writer: &mut W,
+) -> Result<(), ScenarioFault>
+    requires room { W.failures writer.old < 2 ^ 64 - 1 }
+    requires low { IsLow (2 ^ 32 - 1) player.old }
+    ensures prints { Fills W.taken W.failures writer.old writer.new (string_bytes kept.old) (string_bytes kept.new) (calls_text (so_far kernel.old) (turn (so_far kernel.old) player.old).calls) result }
+    ensures makes { OnOk result (Makes kernel.old kernel.new (turn (so_far kernel.old) player.old).calls) }
+    ensures player { OnOk result ((turn (so_far kernel.old) player.old).players ≡ player.new ∷ []) }
+    ensures low { OnOk result ((n : ℕ) → IsLow n player.old → IsLow (n + 1) player.new) }
+{
+    let Some(event) = player.calls.next() else {
+        return Ok(());
+    };
+    let answer = fill_call(kernel, player.actor, &event, kept, writer)?;
+    player.tally.count(&answer)?;
+    player.calls.tell(&answer);
+    Ok(())
+}
+
+// The lines
+
+/// Prints the lines of the workers.
+fn print_players<W: Sink>(
+    alloc: Global,
+    players: &[Player<'_>],
+    writer: &mut W,
+) -> Result<(), ScenarioFault>
+    requires { W.failures writer.old < 2 ^ 64 - 1 }
+    ensures { Prints W.taken W.failures writer.old writer.new (player_lines players.now) result }
+{
+    let mut lines = String::new(alloc);
+    push_players(&mut lines, players)?;
+    print_kept(&mut lines, writer)
+}
+
+fn push_players(text: &mut String, players: &[Player<'_>]) -> Result<(), AllocError>
+    ensures { OnOk result (string_bytes text.new ≡ string_bytes text.old ++ player_lines players.now) }
+{
+    for player in players {
+        push_worker(text, player.actor, &final_tally(player))?;
+    }
+    Ok(())
+}
+
+fn final_tally(player: &Player<'_>) -> Tally
+    ensures { result ≡ final_tally player.now }
+{
+    let outcome = match player.calls.next() {
+        None => Ended::AtEnd,
+        Some(_) => Ended::OutOfTurns,
+    };
+    player.tally.ended(outcome)
+}

@@ -1,0 +1,200 @@
+-- The first thread that has a report for its tracer, as it is found by what is kept beside the threads.
+use Rattle.std.proofs.Common.{Bor, ◌≡◌, ◌==◌, ◌&&◌, ◌||◌, ◌+◌, ◌≤◌, ◌∙◌, ◌⊎◌, inl, inr, ℕ, suc, List, [], ◌∷◌, Bool, true, false, not, Option, Some, None, cond, if◌then◌else◌, filter, find, is_some, length, map, arith, refl, ap, sym, eq-eqb}
+use Rattle.std.specs.List.{list_any}
+use Rattle.std.specs.Option.{option_copied}
+use Rattle.std.proofs.lemmas.Bool.{cases_eq, eqb-true, ne_eqb}
+use Rattle.tr_tracee.specs.declared.thread.Report.{Report}
+use Rattle.tr_tracee.specs.declared.thread.Thread.{Thread}
+use Rattle.tr_tracee.specs.declared.thread.Trace.{Trace}
+use Rattle.tr_tracee.specs.Threads.{is_tracee_of, traces, tracer_of}
+use Rattle.tr_model.specs.Journals.{ids_of, occurs}
+use Rattle.tr_model.specs.Tables.{thread_in}
+use Rattle.tr_table.specs.Tracing.{first_of, if_passes, is_number, is_reporting, passes, reports, tracer, waiter}
+use Rattle.tr_table.specs.Waits.{is_report}
+use Rattle.tr_table.proofs.ByIds.{any_counted, found}
+
+-- a filter before a search
+
+pub find_filter : (r q : Thread → Bool) (ts : List Thread) → find r (filter q ts) ≡ find (λ t. q t && r t) ts
+find_filter r q [] = refl
+find_filter r q (t ∷ ts) = go (q t) (find_filter r q ts)
+  where
+    go : (b : Bool) → find r (filter q ts) ≡ find (λ u. q u && r u) ts → find r (cond b (t ∷ filter q ts) (filter q ts)) ≡ (if b && r t then Some t else find (λ u. q u && r u) ts)
+    go true h = ap (λ o. if r t then Some t else o) h
+    go false h = h
+
+pub find_same : (p q : Thread → Bool) → ((t : Thread) → p t ≡ q t) → (ts : List Thread) → find p ts ≡ find q ts
+find_same p q s ts = λ j. find (λ t. s t j) ts
+
+pub any_by_find : (p : Thread → Bool) (ts : List Thread) → list_any p ts ≡ is_some (find p ts)
+any_by_find p [] = refl
+any_by_find p (t ∷ ts) = go (p t) (any_by_find p ts)
+  where
+    go : (b : Bool) → list_any p ts ≡ is_some (find p ts) → (b || list_any p ts) ≡ is_some (if b then Some t else find p ts)
+    go true h = refl
+    go false h = h
+
+-- by the id
+
+none_found : (q : Thread → Bool) (ts : List Thread) → length (filter q ts) ≡ 0 → (p : Thread → Bool) → ((t : Thread) → p t ≡ true → q t ≡ true) → find p ts ≡ None
+none_found q [] h p s = refl
+none_found q (t ∷ ts) h p s = go (q t) (p t) h (s t) (λ k. none_found q ts k p s)
+  where
+    go : (b a : Bool) → length (cond b (t ∷ filter q ts) (filter q ts)) ≡ 0 → (a ≡ true → b ≡ true) → (length (filter q ts) ≡ 0 → find p ts ≡ None) → (if a then Some t else find p ts) ≡ None
+    go true a k w r = absurd (omega (arith, k))
+    go false true k w r = absurd (never (w refl))
+      where
+        never : false ≡ true → ⊥
+        never e = cc
+    go false false k w r = r k
+
+others : (id : ℕ) (ts : List Thread) → occurs id (ids_of ts) ≤ 0 → length (filter (λ t. id == t.id) ts) ≡ 0
+others id [] h = refl
+others id (t ∷ ts) h = go (id == t.id) refl (others id ts)
+  where
+    go : (b : Bool) → (id == t.id) ≡ b → (occurs id (ids_of ts) ≤ 0 → length (filter (λ u. id == u.id) ts) ≡ 0) → length (cond b (t ∷ filter (λ u. id == u.id) ts) (filter (λ u. id == u.id) ts)) ≡ 0
+    go true e r = absurd (omega (arith, h, ap {B = ℕ} (λ (b : Bool). if b then 1 else 0) (eq-eqb t.id id (sym (eqb-true id t.id e)))))
+    go false e r = r (omega (arith, h))
+
+and_first : (a b : Bool) → (a && b) ≡ true → a ≡ true
+and_first true b e = refl
+and_first false b e = e
+
+pub found_by_id : (q : Thread → Bool) (id : ℕ) (ts : List Thread) → ((n : ℕ) → occurs n (ids_of ts) ≤ 1) → find (λ t. (id == t.id) && q t) ts ≡ if_passes q (thread_in ts id)
+found_by_id q id [] once = refl
+found_by_id q id (t ∷ ts) once = go (cases_eq t.id id) (found_by_id q id ts (λ n. omega (arith, once n)))
+  where
+    go : (t.id ≡ id) ⊎ (t.id ≡ id → ⊥) → find (λ u. (id == u.id) && q u) ts ≡ if_passes q (thread_in ts id)
+        → (if (id == t.id) && q t then Some t else find (λ u. (id == u.id) && q u) ts) ≡ if_passes q (if t.id == id then Some t else thread_in ts id)
+    go (inl e) r =
+        let rest : find (λ u. (id == u.id) && q u) ts ≡ None = none_found (λ u. id == u.id) ts (others id ts (omega (arith, once id, ap {B = ℕ} (λ (b : Bool). if b then 1 else 0) (eq-eqb t.id id e)))) (λ u. (id == u.id) && q u) (λ u. and_first (id == u.id) (q u)) in
+        ap (λ b. if b && q t then Some t else find (λ u. (id == u.id) && q u) ts) (eq-eqb id t.id (sym e)) ∙ (ap (λ o. if q t then Some t else o) rest ∙ ap (λ b. if_passes q (if b then Some t else thread_in ts id)) (sym (eq-eqb t.id id e)))
+    go (inr e) r = ap (λ b. if b && q t then Some t else find (λ u. (id == u.id) && q u) ts) (ne_eqb id t.id (λ k. e (sym k))) ∙ (r ∙ ap (λ b. if_passes q (if b then Some t else thread_in ts id)) (sym (ne_eqb t.id id e)))
+
+-- what a wait asks for
+
+module _ (asks : ℕ → Bool) (a : ℕ) (ts : List Thread) where
+  abbrev pub asked : List Thread
+  asked = filter (λ t. asks t.id) (filter (is_tracee_of a) ts)
+
+  module _ (id : ℕ) (only : (n : ℕ) → asks n ≡ (id == n)) (once : (n : ℕ) → occurs n (ids_of ts) ≤ 1) where
+    pub one_asked : list_any (λ t. asks t.id) (filter (is_tracee_of a) ts) ≡ is_some (if_passes (is_tracee_of a) (thread_in ts id))
+    one_asked =
+        any_by_find (λ t. asks t.id) (filter (is_tracee_of a) ts)
+        ∙ ap is_some (find_filter (λ t. asks t.id) (is_tracee_of a) ts ∙ (find_same (λ t. is_tracee_of a t && asks t.id) (λ t. (id == t.id) && is_tracee_of a t) (λ t. turned (is_tracee_of a t) (asks t.id) (id == t.id) (only t.id)) ts ∙ found_by_id (is_tracee_of a) id ts once))
+      where
+        turned : (b c d : Bool) → c ≡ d → (b && c) ≡ (d && b)
+        turned true true true e = refl
+        turned true false false e = refl
+        turned false true true e = refl
+        turned false false false e = refl
+        turned b true false e = cc
+        turned b false true e = cc
+
+    pub one_found : (r : Thread → Bool) → find r asked ≡ if_passes r (if_passes (is_tracee_of a) (thread_in ts id))
+    one_found r =
+        find_filter r (λ t. asks t.id) (filter (is_tracee_of a) ts)
+        ∙ (find_filter (λ t. asks t.id && r t) (is_tracee_of a) ts
+        ∙ (find_same (λ t. is_tracee_of a t && (asks t.id && r t)) (λ t. (id == t.id) && (is_tracee_of a t && r t)) (λ t. turned (is_tracee_of a t) (asks t.id) (id == t.id) (r t) (only t.id)) ts
+        ∙ (found_by_id (λ t. is_tracee_of a t && r t) id ts once ∙ twice (thread_in ts id))))
+      where
+        turned : (b c d e : Bool) → c ≡ d → (b && (c && e)) ≡ (d && (b && e))
+        turned true true true e h = refl
+        turned true false false e h = refl
+        turned false true true e h = refl
+        turned false false false e h = refl
+        turned b true false e h = cc
+        turned b false true e h = cc
+
+        twice : (o : Option Thread) → if_passes (λ t. is_tracee_of a t && r t) o ≡ if_passes r (if_passes (is_tracee_of a) o)
+        twice None = refl
+        twice (Some t) = go (is_tracee_of a t)
+          where
+            go : (b : Bool) → (if b && r t then Some t else None) ≡ if_passes r (if b then Some t else None)
+            go true = refl
+            go false = refl
+
+  module _ (all : (n : ℕ) → asks n ≡ true) where
+    pub any_asked : list_any (λ t. asks t.id) (filter (is_tracee_of a) ts) ≡ list_any (is_tracee_of a) ts
+    any_asked =
+        any_by_find (λ t. asks t.id) (filter (is_tracee_of a) ts)
+        ∙ (ap is_some (find_filter (λ t. asks t.id) (is_tracee_of a) ts ∙ find_same (λ t. is_tracee_of a t && asks t.id) (is_tracee_of a) (λ t. both (is_tracee_of a t) (asks t.id) (all t.id)) ts) ∙ sym (any_by_find (is_tracee_of a) ts))
+      where
+        both : (b c : Bool) → c ≡ true → (b && c) ≡ b
+        both true c e = e
+        both false c e = refl
+
+    pub any_found : (r : Thread → Bool) → find r asked ≡ find (λ t. is_tracee_of a t && r t) ts
+    any_found r =
+        find_filter r (λ t. asks t.id) (filter (is_tracee_of a) ts)
+        ∙ (find_filter (λ t. asks t.id && r t) (is_tracee_of a) ts
+        ∙ find_same (λ t. is_tracee_of a t && (asks t.id && r t)) (λ t. is_tracee_of a t && r t) (λ t. ap (λ b. is_tracee_of a t && (b && r t)) (all t.id)) ts)
+
+-- by the ids of those that have a report
+
+abbrev first_some : (Thread → Bool) → List (Option Thread) → Option Thread
+first_some p [] = None
+first_some p (o ∷ os) = if passes p o then o else first_some p os
+
+by_records : (p : Thread → Bool) (ts : List Thread) (ns : List ℕ) → first_of p ts ns ≡ first_some p (map (thread_in ts) ns)
+by_records p ts [] = refl
+by_records p ts (n ∷ ns) = ap (λ o. if passes p (thread_in ts n) then thread_in ts n else o) (by_records p ts ns)
+
+all_there : (p : Thread → Bool) (ts : List Thread) → first_some p (map Some ts) ≡ find p ts
+all_there p [] = refl
+all_there p (t ∷ ts) = ap (λ o. if p t then Some t else o) (all_there p ts)
+
+listed : (p k : Thread → Bool) (ts : List Thread) → ((t : Thread) → p t ≡ true → k t ≡ true) → ((n : ℕ) → occurs n (ids_of ts) ≤ 1) → first_of p ts (ids_of (filter k ts)) ≡ find p ts
+listed p k ts s once =
+    by_records p ts (ids_of (filter k ts))
+    ∙ (ap (first_some p) (found k ts once) ∙ (all_there p (filter k ts) ∙ (find_filter p k ts ∙ find_same (λ t. k t && p t) p (λ t. both (k t) (p t) (s t)) ts)))
+  where
+    both : (b c : Bool) → (c ≡ true → b ≡ true) → (b && c) ≡ c
+    both true c h = refl
+    both false false h = refl
+    both false true h = h refl
+
+-- who reports has a tracer
+
+is_tracer : (a : ℕ) (o : Option Trace) → is_number a (tracer_of o) ≡ traces a o
+is_tracer a None = refl
+is_tracer a (Some r) = refl
+
+no_report : (number : Option ℕ) → is_report number None ≡ false
+no_report None = refl
+no_report (Some n) = refl
+
+tells : (a : ℕ) (number : Option ℕ) (o : Option Trace) (r : Option Report) → (traces a o && is_report number r) ≡ true → is_number a (if is_some r then tracer_of o else None) ≡ true
+tells a number o (Some x) e = is_tracer a o ∙ and_first (traces a o) (is_report number (Some x)) e
+tells a number o None e = absurd (never (traces a o) (ap (λ b. traces a o && b) (sym (no_report number)) ∙ e))
+  where
+    never : (b : Bool) → (b && false) ≡ true → ⊥
+    never true h = cc
+    never false h = cc
+
+numbered : (a : ℕ) (o : Option ℕ) → is_number a o ≡ true → is_some o ≡ true
+numbered a None e = e
+numbered a (Some n) e = refl
+
+pub tracees_counted : (a : ℕ) (ts : List Thread) → not (length (filter (λ t. is_number a (tracer t)) ts) == 0) ≡ list_any (is_tracee_of a) ts
+tracees_counted a ts = sym (any_counted (λ t. is_number a (tracer t)) ts) ∙ (λ j. list_any (λ t. is_tracer a t.trace j) ts)
+
+pub first_listed : (a : ℕ) (number : Option ℕ) (ts : List Thread) → ((n : ℕ) → occurs n (ids_of ts) ≤ 1) → first_of (reports a number) ts (ids_of (filter is_reporting ts)) ≡ find (reports a number) ts
+first_listed a number ts once = listed (reports a number) is_reporting ts (λ t e. numbered a (waiter t) (tells a number t.trace t.report e)) once
+
+pub none_waits : (a : ℕ) (number : Option ℕ) (ts : List Thread) → length (filter (λ t. is_number a (waiter t)) ts) ≡ 0 → find (reports a number) ts ≡ None
+none_waits a number ts h = none_found (λ t. is_number a (waiter t)) ts h (reports a number) (λ t e. tells a number t.trace t.report e)
+
+pub is_zero : (n : ℕ) → not (n == 0) ≡ false → n ≡ 0
+is_zero n e = go (cases_eq n 0)
+  where
+    go : (n ≡ 0) ⊎ (n ≡ 0 → ⊥) → n ≡ 0
+    go (inl k) = k
+    go (inr k) = absurd (never (sym (ap not (ne_eqb n 0 k)) ∙ e))
+      where
+        never : true ≡ false → ⊥
+        never h = cc
+
+pub copied_some : (o : Option (Bor Thread)) → is_some (option_copied o) ≡ is_some o
+copied_some None = refl
+copied_some (Some t) = refl

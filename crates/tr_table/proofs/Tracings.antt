@@ -1,0 +1,122 @@
+-- What is kept for the waits of tracers, as one: a thread of the list, what it becomes, and one that goes or comes.
+use Rattle.std.proofs.Common.{◌≡◌, ◌+◌, ◌<◌, ◌≤◌, ◌++◌, ◌∷◌, [], ◌∙◌, ℕ, List, Bool, true, false, Option, None, filter, if◌then◌else◌, is_some, length, length-append, set, get_or, remove, take, arith, ap, subst, sym}
+use Rattle.std.specs.List.Sorted.{IsPartitionedBy}
+use Rattle.std.proofs.lemmas.List.{length-set}
+use Rattle.std.proofs.lemmas.List.Edits.{length-remove}
+use Rattle.tr_tracee.specs.declared.thread.Thread.{Thread}
+use Rattle.tr_model.specs.Journals.{ids_of, occurs}
+use Rattle.tr_table.specs.Held.{bool_to_nat}
+use Rattle.tr_table.specs.Tracing.{HasPlace, HasPlaces, IsMultiset, IsTracing, MultisetView, TracingView, is_before, is_number, is_reporting, relisted, tracer, waiter}
+use Rattle.tr_table.proofs.Keeping.{fewer_kept}
+use Rattle.tr_table.proofs.ThreadLists.{ids_length}
+use Rattle.tr_table.proofs.Traced.{counts_it, list_added, list_gone, list_written, parts_count, parts_parted, place_after, place_for, place_left, ranked, multiset_added, multiset_gone, multiset_written, within_kept}
+
+-- a multiset is told what a thread was and what it is
+pub record Recounts (v w : MultisetView) (before after : Option ℕ) : Type 0 where
+  pub counted : (m : ℕ) → occurs m w.numbers + bool_to_nat (is_number m before) ≡ occurs m v.numbers + bool_to_nat (is_number m after)
+  pub sized : length w.numbers + bool_to_nat (is_some before) ≡ length v.numbers + bool_to_nat (is_some after)
+
+-- what a multiset asks for it
+pub record MayRecount (v : MultisetView) (before after : Option ℕ) : Type 0 where
+  pub counted : (m : ℕ) → bool_to_nat (is_number m before) ≤ occurs m v.numbers
+  pub room : length v.numbers + bool_to_nat (is_some after) ≤ v.places + bool_to_nat (is_some before)
+
+module _ (ts : List Thread) (ids : List ℕ) (v : TracingView) (h : IsTracing ts v) (room : HasPlaces (length ts) v) (e : ids ≡ ids_of ts) (once : (n : ℕ) → occurs n ids ≤ 1) (i : ℕ) (x : Thread) (l : i < length ts) (at : x ≡ get_or ts i x) where
+  distinct : (n : ℕ) → occurs n (ids_of ts) ≤ 1
+  distinct n = subst (λ (ns : List ℕ). occurs n ns ≤ 1) e (once n)
+
+  pub parted : IsPartitionedBy (is_before ids i) v.reporting
+  parted = rw (e, h.reporting) (parts_parted (is_before (ids_of ts) i) (ids_of (filter is_reporting ts)) (length (filter is_reporting (take i ts))) (ranked is_reporting ts i distinct))
+
+  rank : length (filter (is_before ids i) v.reporting) ≡ length (filter is_reporting (take i ts))
+  rank = rw (e, h.reporting) (parts_count (is_before (ids_of ts) i) (ids_of (filter is_reporting ts)) (length (filter is_reporting (take i ts))) (ranked is_reporting ts i distinct))
+
+  pub there : (was : Option ℕ) → was ≡ waiter x → length (filter (is_before ids i) v.reporting) + bool_to_nat (is_some was) ≤ length v.reporting
+  there was w =
+      omega (
+        arith,
+        rank,
+        within_kept is_reporting ts i x l,
+        ap (λ (ns : List ℕ). length ns) h.reporting,
+        ap (λ (o : Option ℕ). bool_to_nat (is_some o)) w,
+        ap (λ (t : Thread). bool_to_nat (is_reporting t)) at,
+      )
+
+  pub place : (y : Thread) (was is : Option ℕ) → was ≡ waiter x → is ≡ waiter y → length v.reporting + bool_to_nat (is_some is) ≤ v.places + bool_to_nat (is_some was)
+  place y was is w s =
+      let few : length v.waiters.numbers + bool_to_nat (is_some (waiter y)) ≤ v.places + bool_to_nat (is_some (waiter (get_or ts i x))) = place_for waiter ts (record { numbers = v.waiters.numbers; places = v.places }) (record { counted = h.waiters.counted; sized = h.waiters.sized }) i x l y room.reporting in
+      omega (
+        arith,
+        few,
+        h.waiters.sized,
+        ids_length (filter is_reporting ts),
+        ap (λ (ns : List ℕ). length ns) h.reporting,
+        ap (λ (o : Option ℕ). bool_to_nat (is_some o)) w,
+        ap (λ (o : Option ℕ). bool_to_nat (is_some o)) s,
+        ap (λ (t : Thread). bool_to_nat (is_reporting t)) at,
+      )
+
+  pub may_trace : (y : Thread) (before after : Option ℕ) → before ≡ tracer x → after ≡ tracer y → MayRecount v.tracers before after
+  may_trace y before after b a = rw (b, a) (subst (λ (t : Thread). MayRecount v.tracers (tracer t) (tracer y)) (sym at) (record { counted = counts_it tracer ts v.tracers h.tracers i x l; room = place_for tracer ts v.tracers h.tracers i x l y room.tracers }))
+
+  pub may_wait : (y : Thread) (before after : Option ℕ) → before ≡ waiter x → after ≡ waiter y → MayRecount v.waiters before after
+  may_wait y before after b a = rw (b, a) (subst (λ (t : Thread). MayRecount v.waiters (waiter t) (waiter y)) (sym at) (record { counted = counts_it waiter ts v.waiters h.waiters i x l; room = place_for waiter ts v.waiters h.waiters i x l y room.waiters }))
+
+  pub may_untrace : (before : Option ℕ) → before ≡ tracer x → MayRecount v.tracers before None
+  may_untrace before b = rw b (subst (λ (t : Thread). MayRecount v.tracers (tracer t) None) (sym at) (record { counted = counts_it tracer ts v.tracers h.tracers i x l; room = place_left tracer ts v.tracers h.tracers i x l room.tracers }))
+
+  pub may_unwait : (before : Option ℕ) → before ≡ waiter x → MayRecount v.waiters before None
+  may_unwait before b = rw b (subst (λ (t : Thread). MayRecount v.waiters (waiter t) None) (sym at) (record { counted = counts_it waiter ts v.waiters h.waiters i x l; room = place_left waiter ts v.waiters h.waiters i x l room.waiters }))
+
+  pub traced_written : (y : Thread) (w : TracingView) (was is : Option ℕ) → y.id ≡ (get_or ts i x).id → was ≡ waiter x → is ≡ waiter y → Recounts v.tracers w.tracers (tracer x) (tracer y) → Recounts v.waiters w.waiters was is
+      → w.reporting ≡ relisted (is_some was) (is_some is) (length (filter (is_before ids i) v.reporting)) y.id v.reporting → IsTracing (set ts i y) w
+  traced_written y w was is same b a p q r =
+      let p' : Recounts v.tracers w.tracers (tracer (get_or ts i x)) (tracer y) = subst (λ (t : Thread). Recounts v.tracers w.tracers (tracer t) (tracer y)) at p in
+      let b' : was ≡ waiter (get_or ts i x) = b ∙ ap waiter at in
+      let q' : Recounts v.waiters w.waiters (waiter (get_or ts i x)) (waiter y) = subst (λ (o : Option ℕ). Recounts v.waiters w.waiters o (waiter y)) b' (subst (λ (o : Option ℕ). Recounts v.waiters w.waiters was o) a q) in
+      let list : w.reporting ≡ relisted (is_reporting (get_or ts i x)) (is_reporting y) (length (filter is_reporting (take i ts))) y.id (ids_of (filter is_reporting ts)) = r ∙ (λ j. relisted (is_some (b' j)) (is_some (a j)) (rank j) y.id (h.reporting j)) in
+      record {
+        tracers = multiset_written tracer ts v.tracers w.tracers h.tracers i x y l p'.counted p'.sized;
+        waiters = multiset_written waiter ts v.waiters w.waiters h.waiters i x y l q'.counted q'.sized;
+        reporting = list ∙ list_written is_reporting ts i x y l same;
+      }
+
+  pub traced_gone : (id : ℕ) (w : TracingView) (was : Option ℕ) → was ≡ waiter x → Recounts v.tracers w.tracers (tracer x) None → Recounts v.waiters w.waiters was None
+      → w.reporting ≡ relisted (is_some was) false (length (filter (is_before ids i) v.reporting)) id v.reporting → IsTracing (remove ts i) w
+  traced_gone id w was b p q r =
+      let p' : Recounts v.tracers w.tracers (tracer (get_or ts i x)) None = subst (λ (t : Thread). Recounts v.tracers w.tracers (tracer t) None) at p in
+      let b' : was ≡ waiter (get_or ts i x) = b ∙ ap waiter at in
+      let q' : Recounts v.waiters w.waiters (waiter (get_or ts i x)) None = subst (λ (o : Option ℕ). Recounts v.waiters w.waiters o None) b' q in
+      let list : w.reporting ≡ relisted (is_reporting (get_or ts i x)) false (length (filter is_reporting (take i ts))) id (ids_of (filter is_reporting ts)) = r ∙ (λ j. relisted (is_some (b' j)) false (rank j) id (h.reporting j)) in
+      record {
+        tracers = multiset_gone tracer ts v.tracers w.tracers h.tracers i x l p'.counted p'.sized;
+        waiters = multiset_gone waiter ts v.waiters w.waiters h.waiters i x l q'.counted q'.sized;
+        reporting = list ∙ list_gone is_reporting ts i x id l;
+      }
+
+pub traced_added : (ts : List Thread) (v w : TracingView) (t : Thread) → IsTracing ts v → Recounts v.tracers w.tracers None (tracer t) → Recounts v.waiters w.waiters None (waiter t)
+    → w.reporting ≡ (if is_some (waiter t) then v.reporting ++ t.id ∷ [] else v.reporting) → IsTracing (ts ++ t ∷ []) w
+traced_added ts v w t h p q r = record {
+  tracers = multiset_added tracer ts v.tracers w.tracers h.tracers t p.counted p.sized;
+  waiters = multiset_added waiter ts v.waiters w.waiters h.waiters t q.counted q.sized;
+  reporting = r ∙ (ap (λ (ns : List ℕ). if is_some (waiter t) then ns ++ t.id ∷ [] else ns) h.reporting ∙ sym (list_added is_reporting ts t));
+}
+
+pub has_place : (ts : List Thread) (v : TracingView) (n : ℕ) → IsTracing ts v → HasPlaces n v → length ts + 1 ≤ n → HasPlace v
+has_place ts v n h room l = record {
+  tracers = place_after tracer ts v.tracers h.tracers (omega (arith, room.tracers, l));
+  waiters = place_after waiter ts v.waiters h.waiters (omega (arith, room.waiters, l));
+  reporting = omega (arith, room.reporting, l, ap (λ (ns : List ℕ). length ns) h.reporting, ids_length (filter is_reporting ts), fewer_kept is_reporting ts);
+}
+
+pub fewer_places : (m n : ℕ) (v : TracingView) → m ≤ n → HasPlaces n v → HasPlaces m v
+fewer_places m n v l h = record { tracers = omega (arith, l, h.tracers); waiters = omega (arith, l, h.waiters); reporting = omega (arith, l, h.reporting) }
+
+pub places_written : (ts : List Thread) (i : ℕ) (y : Thread) (v : TracingView) → HasPlaces (length ts) v → HasPlaces (length (set ts i y)) v
+places_written ts i y v h = rw (length-set ts i y) h
+
+pub places_gone : (ts : List Thread) (i : ℕ) (v : TracingView) → i < length ts → HasPlaces (length ts) v → HasPlaces (length (remove ts i)) v
+places_gone ts i v l h = fewer_places (length (remove ts i)) (length ts) v (omega (arith, length-remove ts i l)) h
+
+pub places_added : (ts : List Thread) (t : Thread) (n : ℕ) (v : TracingView) → length ts + 1 ≤ n → HasPlaces n v → HasPlaces (length (ts ++ t ∷ [])) v
+places_added ts t n v l h = fewer_places (length (ts ++ t ∷ [])) n v (omega (arith, l, length-append ts (t ∷ []))) h

@@ -1,0 +1,10 @@
+use Rattle.std.proofs.Common.{◌≡◌, ◌++◌, drop, map, take, vec_len}
+use Rattle.tr_table.specs.Changes.{is_picked}
+use Rattle.tr_table.specs.Slots.{IsPending, without_picked}
+use Rattle.tr_table.proofs.pending.Pending.drop_picked.Given as goal
+
+abbrev pub invariant-loop-place : goal.invariant-loop-place
+invariant-loop-place l =
+    IsPending l.self
+    × (l.self.slots.items ≡ map (without_picked (is_picked l.threads l.picked)) (take l.place l.fn.self.slots.items) ++ drop l.place l.fn.self.slots.items)
+    × (l.self.room ≡ l.fn.self.room)

@@ -1,0 +1,29 @@
+use Rattle.std.proofs.Common.{◌≡◌, ◌∙◌, ap, sym, subst, rules, Some, None, true, false, get_or, if◌then◌else◌}
+use Rattle.tr_model.specs.Moves.{instance_in}
+use Rattle.tr_table.specs.declared.slots.Slot.{Slot}
+use Rattle.tr_table.specs.Slots.{all_in, standing}
+use Rattle.tr_table.proofs.Standing.{at_place, none_standing}
+use Rattle.tr_table.proofs.pending.Pending.instance.Goals as goal
+
+pub returns-in_err-place : goal.returns-in_err-place
+returns-in_err-place c =
+    let ss = c.args.self.now.slots.items in
+    let none : instance_in (all_in ss) c.args.n ≡ None = search rules in
+    c.from_residual.ensures ∙ sym (none_standing ss c.args.n none)
+
+pub returns-then-slot : goal.returns-then-slot
+returns-then-slot c =
+    let ss = c.args.self.now.slots.items in
+    let s : Slot = c.index-slot.result.now in
+    let i = c.in_ok-place.place in
+    let gone : (get_or ss i s).gone ≡ true = ap (λ (t : Slot). t.gone) (sym c.index-slot.ensures) ∙ c.if-slot.true in
+    sym (at_place ss s c.args.n i c.requires.sorted (search rules) (search rules) ∙ ap (λ b. if b then None else Some (get_or ss i s).waiting.instance) gone)
+
+pub returns-else-slot : goal.returns-else-slot
+returns-else-slot c =
+    let ss = c.args.self.now.slots.items in
+    let s : Slot = c.index-slot.result.now in
+    let i = c.in_ok-place.place in
+    let gone : (get_or ss i s).gone ≡ false = ap (λ (t : Slot). t.gone) (sym c.index-slot.ensures) ∙ c.if-slot.false in
+    ap (λ (t : Slot). Some t.waiting.instance) c.index-slot.ensures
+    ∙ sym (at_place ss s c.args.n i c.requires.sorted (search rules) (search rules) ∙ ap (λ b. if b then None else Some (get_or ss i s).waiting.instance) gone)

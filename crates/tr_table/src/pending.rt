@@ -1,0 +1,325 @@
+ghost use Rattle.std.specs.Prelude.{◌≡◌, ◌==◌, ◌&&◌, ◌+◌, ◌<◌, ◌≤◌, ◌++◌, ◌∷◌, [], OnErr, OnOk, false, filter, get_or, length, map, not, set, vec_capacity, vec_len};
+ghost use Rattle.std.specs.List.{list_any};
+ghost use Rattle.tr_model.specs.declared.fates.Fate.TheVariants.{Flushed};
+ghost use Rattle.tr_model.specs.declared.rows.Target.TheVariants as target;
+ghost use Rattle.tr_model.specs.Moves.{ending_of, instance_in, retargeted, without_instance};
+ghost use Rattle.tr_pending.specs.Waiting.{IsMask, best_of, first_of, is_waiting};
+ghost use Rattle.tr_table.specs.Changes.{holds, is_flushed, is_picked, queue_in};
+ghost use Rattle.tr_table.specs.Lines.{IsQueue};
+ghost use Rattle.tr_table.specs.Queues.{AllBelow, without_one};
+ghost use Rattle.tr_table.specs.Slots.{IsPending, emptied, standing};
+ghost use Rattle.tr_table.specs.declared.slots.Slot.{Slot};
+
+use crate::lines::{
+    Line, LineKey, Queue, enter_all, enter_line, enter_queue, leave_line, leave_queue,
+};
+use crate::picked::{Flush, Picked, is_picked, log_picked};
+use crate::slots::{Slot, close_up, place_of, reaim, trim};
+use crate::threads::Threads;
+use indexmap::IndexMap;
+use std::alloc::{AllocError, Global};
+use tr_model::{Ending, Target, Waiting};
+use tr_pending::Instance;
+use tr_sigset::{SigSet, Signal};
+use tr_tracee::Thread;
+
+/// All that waits, in slots that stand in order of acceptance, with an index of its lines and queues.
+#[derive(Drop)]
+pub(crate) struct Pending {
+    pub(crate) slots: Vec<Slot>,
+    pub(crate) lines: IndexMap<LineKey, Line>,
+    pub(crate) queues: IndexMap<Target, Queue>,
+    pub(crate) count: usize,
+    pub(crate) room: usize,
+}
+
+impl Pending {
+    /// Nothing waits, and no place is reserved.
+    pub(crate) fn new(alloc: Global) -> Pending
+        ensures kept { IsPending result }
+        ensures waiting { standing result.slots.items ≡ [] }
+    {
+        Pending {
+            slots: Vec::new(alloc),
+            lines: IndexMap::new(alloc),
+            queues: IndexMap::new(alloc),
+            count: 0,
+            room: 0,
+        }
+    }
+
+    /// How many instances wait.
+    pub(crate) fn len(&self) -> usize
+        requires { IsPending self.now }
+        ensures { result ≡ length (standing self.now.slots.items) }
+    {
+        self.count
+    }
+
+    /// What is kept of the target's queue.
+    fn queue(&self, target: Target) -> Option<Queue>
+        requires { IsPending self.now }
+        ensures { IsQueue result (queue_in target (standing self.now.slots.items)) }
+    {
+        self.queues.get(&target).copied()
+    }
+
+    /// How many instances wait for the target.
+    pub(crate) fn queue_len(&self, target: Target) -> usize
+        requires { IsPending self.now }
+        ensures { result ≡ length (queue_in target (standing self.now.slots.items)) }
+    {
+        match self.queue(target) {
+            Some(queue) => queue.count,
+            None => 0,
+        }
+    }
+
+    /// The set of the signals that wait for the target.
+    pub(crate) fn mask(&self, target: Target) -> SigSet
+        requires { IsPending self.now }
+        ensures { IsMask result (queue_in target (standing self.now.slots.items)) }
+    {
+        match self.queue(target) {
+            Some(queue) => queue.mask,
+            None => SigSet::empty(),
+        }
+    }
+
+    /// Whether an instance of the signal waits for the target.
+    pub(crate) fn is_waiting(&self, target: Target, signal: Signal) -> bool
+        requires { IsPending self.now }
+        ensures { result ≡ is_waiting signal (queue_in target (standing self.now.slots.items)) }
+    {
+        self.mask(target).has(signal)
+    }
+
+    /// The instance of a number.
+    pub(crate) fn instance(&self, n: u64) -> Option<Instance>
+        requires { IsPending self.now }
+        ensures { result ≡ instance_in (standing self.now.slots.items) n }
+    {
+        let place = place_of(&self.slots, n)?;
+        let slot = &self.slots[place];
+        if slot.gone {
+            None
+        } else {
+            Some(slot.waiting.instance)
+        }
+    }
+
+    /// The first instance of a signal that waits for the target.
+    pub(crate) fn first(&self, target: Target, signal: Signal) -> Option<Instance>
+        requires { IsPending self.now }
+        ensures { result ≡ first_of signal (queue_in target (standing self.now.slots.items)) }
+    {
+        let key = LineKey {
+            target,
+            signal: signal.number(),
+        };
+        let line = self.lines.get(&key)?;
+        self.instance(line.first)
+    }
+
+    /// The first instance of the least signal number that isn't blocked, of those that wait for the target.
+    pub(crate) fn best(&self, target: Target, blocked: SigSet) -> Option<Instance>
+        requires { IsPending self.now }
+        ensures { result ≡ best_of blocked (queue_in target (standing self.now.slots.items)) }
+    {
+        match self.mask(target).minus(blocked).least() {
+            Some(signal) => self.first(target, signal),
+            None => None,
+        }
+    }
+
+    /// Puts an instance last. Its number is above all that wait.
+    pub(crate) fn push(&mut self, waiting: &Waiting)
+        requires kept { IsPending self.old }
+        requires room { 0 < self.old.room }
+        requires last { AllBelow waiting.now.instance.n (standing self.old.slots.items) }
+        ensures kept { IsPending self.new }
+        ensures waiting { standing self.new.slots.items ≡ standing self.old.slots.items ++ waiting.now ∷ [] }
+        ensures room { self.new.room + 1 ≡ self.old.room }
+    {
+        trim(&mut self.slots);
+        enter_line(&mut self.lines, waiting);
+        enter_queue(&mut self.queues, waiting);
+        self.slots.push_reserved(Slot {
+            waiting: *waiting,
+            gone: false,
+        });
+        self.count += 1;
+        self.room -= 1;
+    }
+
+    /// Takes the instance at a place out. Its slot stays.
+    fn remove_at(&mut self, place: usize)
+        requires kept { IsPending self.old }
+        requires within { place < vec_len self.old.slots }
+        requires there { (s : Slot) → (get_or self.old.slots.items place s).gone ≡ false }
+        ensures kept { IsPending self.new }
+        ensures slots { (s : Slot) → self.new.slots.items ≡ set self.old.slots.items place (emptied (get_or self.old.slots.items place s)) }
+        ensures room { self.new.room ≡ self.old.room }
+    {
+        let slot = &self.slots[place];
+        let stays = leave_line(&mut self.lines, &slot.waiting, &self.slots[place + 1..]);
+        leave_queue(&mut self.queues, &slot.waiting, stays);
+        self.slots[place].gone = true;
+        self.count -= 1;
+    }
+
+    /// Takes the instance of a number out.
+    pub(crate) fn remove(&mut self, n: u64) -> Option<Instance>
+        requires kept { IsPending self.old }
+        ensures taken { result ≡ instance_in (standing self.old.slots.items) n }
+        ensures kept { IsPending self.new }
+        ensures waiting { standing self.new.slots.items ≡ without_instance n (standing self.old.slots.items) }
+        ensures room { self.new.room ≡ self.old.room }
+    {
+        let place = place_of(&self.slots, n)?;
+        if self.slots[place].gone {
+            return None;
+        }
+        let taken = self.slots[place].waiting.instance;
+        self.remove_at(place);
+        Some(taken)
+    }
+
+    /// Takes the first instance of a signal that waits for the target out.
+    pub(crate) fn take_first(&mut self, target: Target, signal: Signal) -> Option<Instance>
+        requires { IsPending self.old }
+        ensures taken { result ≡ first_of signal (queue_in target (standing self.old.slots.items)) }
+        ensures kept { IsPending self.new }
+        ensures waiting { standing self.new.slots.items ≡ without_one target signal (standing self.old.slots.items) }
+        ensures room { self.new.room ≡ self.old.room }
+    {
+        let key = LineKey {
+            target,
+            signal: signal.number(),
+        };
+        let first = self.lines.get(&key)?.first;
+        self.remove(first)
+    }
+
+    /// Makes places for this many more. Where memory is refused, what waits and what is promised stays.
+    pub(crate) fn reserve(&mut self, more: usize) -> Result<(), AllocError>
+        requires { IsPending self.old }
+        ensures kept { IsPending self.new }
+        ensures waiting { standing self.new.slots.items ≡ standing self.old.slots.items }
+        ensures ok { OnOk result (more ≤ self.new.room) }
+        ensures room { self.old.room ≤ self.new.room }
+        ensures err { OnErr result (self.new.room ≡ self.old.room) }
+    {
+        if more <= self.room {
+            return Ok(());
+        }
+        let all = self.count.checked_add(more).ok_or(AllocError)?;
+        if self.slots.len() / 2 > self.count {
+            close_up(&mut self.slots);
+        }
+        self.slots.reserve(more)?;
+        let lines = all.saturating_sub(self.lines.len());
+        self.lines.reserve(lines.max(more))?;
+        let queues = all.saturating_sub(self.queues.len());
+        self.queues.reserve(queues.max(more))?;
+        self.room = more;
+        Ok(())
+    }
+
+    /// What waits for one thread waits for another.
+    pub(crate) fn reaim(&mut self, from: u32, to: u32)
+        requires { IsPending self.old }
+        ensures kept { IsPending self.new }
+        ensures waiting { standing self.new.slots.items ≡ map (retargeted from to) (standing self.old.slots.items) }
+        ensures room { self.new.room ≡ self.old.room }
+    {
+        if self.queue_len(Target::Thread(from)) == 0 {
+            return;
+        }
+        reaim(&mut self.slots, from, to);
+        self.lines.clear();
+        self.queues.clear();
+        enter_all(&mut self.lines, &mut self.queues, &self.slots);
+    }
+
+    /// Whether the target's queue may hold what is flushed; where it doesn't, it holds none.
+    fn may_hold(&self, target: Target, flush: &Flush) -> bool
+        requires { IsPending self.now }
+        ensures { result ≡ false → holds flush.now target (standing self.now.slots.items) ≡ false }
+    {
+        match flush {
+            Flush::Stops => self.queue_len(target) > 0,
+            Flush::Cont => self.is_waiting(target, Signal::CONT),
+            Flush::One(signal) => self.is_waiting(target, *signal),
+        }
+    }
+
+    /// Whether a thread's own queue of the group may hold what is flushed.
+    fn may_thread_hold(&self, threads: &[Thread], tgid: u32, flush: &Flush) -> bool
+        requires { IsPending self.now }
+        ensures { result ≡ false → list_any (λ t. t.group == tgid && holds flush.now (target.Thread t.id) (standing self.now.slots.items)) threads.now ≡ false }
+    {
+        for thread in threads {
+            if thread.group == tgid && self.may_hold(Target::Thread(thread.id), flush) {
+                return true;
+            }
+        }
+        false
+    }
+
+    /// Whether a queue of the group may hold what is flushed.
+    fn may_group_hold(&self, threads: &Threads, tgid: u32, flush: &Flush) -> bool
+        requires { IsPending self.now }
+        ensures { result ≡ false → list_any (is_flushed threads.now tgid flush.now) (standing self.now.slots.items) ≡ false }
+    {
+        // The target of no thread has the owner 0.
+        if tgid == 0 || self.may_hold(Target::Group(tgid), flush) {
+            return true;
+        }
+        self.may_thread_hold(threads.as_slice(), tgid, flush)
+    }
+
+    /// Whether something may be picked; where not, none is.
+    fn may_pick(&self, threads: &Threads, picked: &Picked) -> bool
+        requires { IsPending self.now }
+        ensures { result ≡ false → list_any (is_picked threads.now picked.now) (standing self.now.slots.items) ≡ false }
+    {
+        match picked {
+            Picked::Group(tgid, flush) => self.may_group_hold(threads, *tgid, flush),
+            Picked::Queue(target) => self.queue_len(*target) > 0,
+            Picked::Set(target, _) => self.queue_len(*target) > 0,
+        }
+    }
+
+    /// Takes out what is picked, and appends it to `ended` as flushed, in order of acceptance.
+    pub(crate) fn flush(&mut self, threads: &Threads, picked: &Picked, ended: &mut Vec<Ending>)
+        requires kept { IsPending self.old }
+        requires places { vec_len ended.old + length (standing self.old.slots.items) ≤ vec_capacity ended.old }
+        ensures kept { IsPending self.new }
+        ensures waiting { standing self.new.slots.items ≡ filter (λ q. not (is_picked threads.now picked.now q)) (standing self.old.slots.items) }
+        ensures room { self.new.room ≡ self.old.room }
+        ensures ended { ended.new.items ≡ ended.old.items ++ map (ending_of Flushed) (filter (is_picked threads.now picked.now) (standing self.old.slots.items)) }
+        ensures len { vec_len ended.new ≡ vec_len ended.old + length (filter (is_picked threads.now picked.now) (standing self.old.slots.items)) }
+        ensures capacity { vec_capacity ended.new ≡ vec_capacity ended.old }
+    {
+        if self.may_pick(threads, picked) {
+            log_picked(ended, &self.slots, threads, picked);
+            self.drop_picked(threads, picked);
+        }
+    }
+
+    /// Takes out what is picked.
+    pub(crate) fn drop_picked(&mut self, threads: &Threads, picked: &Picked)
+        requires { IsPending self.old }
+        ensures kept { IsPending self.new }
+        ensures waiting { standing self.new.slots.items ≡ filter (λ q. not (is_picked threads.now picked.now q)) (standing self.old.slots.items) }
+        ensures room { self.new.room ≡ self.old.room }
+    {
+        for place in 0..self.slots.len() {
+            let slot = &self.slots[place];
+            if !slot.gone && is_picked(threads, picked, &slot.waiting) {
+                self.remove_at(place);
+            }
+        }
+    }
+}

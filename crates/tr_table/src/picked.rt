@@ -1,0 +1,126 @@
+ghost use Rattle.std.specs.Prelude.{◌≡◌, ◌+◌, ◌≤◌, ◌++◌, filter, length, map, vec_len, vec_capacity};
+ghost use Rattle.tr_model.specs.Moves.{ending_of};
+ghost use Rattle.tr_model.specs.Tables.{same_target};
+ghost use Rattle.tr_model.specs.declared.fates.Fate.TheVariants.{Flushed};
+ghost use Rattle.tr_table.specs.Changes.{flushes, is_flushed, is_picked};
+ghost use Rattle.tr_table.specs.Queues.{is_of, is_one};
+ghost use Rattle.tr_table.specs.Slots.{standing};
+
+use crate::slots::Slot;
+use crate::threads::{Threads, owner_of};
+use tr_model::{Ending, Fate, Target, Waiting};
+use tr_sigset::{SigSet, Signal};
+
+/// Which pending signals of a group are flushed.
+#[derive(Clone, Copy, Debug)]
+pub enum Flush {
+    /// The stop signals.
+    Stops,
+    /// SIGCONT.
+    Cont,
+    /// One signal.
+    One(Signal),
+}
+
+/// Which instances are picked, of all that wait.
+#[derive(Clone, Copy, Debug)]
+pub(crate) enum Picked {
+    /// Those of the group's queues that are flushed.
+    Group(u32, Flush),
+    /// A whole queue.
+    Queue(Target),
+    /// Those of a queue whose signal is in the set.
+    Set(Target, SigSet),
+}
+
+fn flushes(flush: &Flush, signal: Signal) -> bool
+    ensures { result ≡ flushes flush.now signal }
+{
+    match flush {
+        Flush::Stops => signal.is_stop(),
+        Flush::Cont => signal.number() == 18,
+        Flush::One(flushed) => signal.number() == flushed.number(),
+    }
+}
+
+fn is_flushed(threads: &Threads, tgid: u32, flush: &Flush, waiting: &Waiting) -> bool
+    ensures { result ≡ is_flushed threads.now tgid flush.now waiting.now }
+{
+    flushes(flush, waiting.instance.sig) && owner_of(threads, waiting.target) == tgid
+}
+
+fn is_in(target: Target, set: SigSet, waiting: &Waiting) -> bool
+    ensures { result ≡ is_of target set waiting.now }
+{
+    same_target(target, waiting.target) && set.has(waiting.instance.sig)
+}
+
+pub(crate) fn is_picked(threads: &Threads, picked: &Picked, waiting: &Waiting) -> bool
+    ensures { result ≡ is_picked threads.now picked.now waiting.now }
+{
+    match picked {
+        Picked::Group(tgid, flush) => is_flushed(threads, *tgid, flush, waiting),
+        Picked::Queue(target) => same_target(*target, waiting.target),
+        Picked::Set(target, set) => is_in(*target, *set, waiting),
+    }
+}
+
+pub(crate) fn is_one(target: Target, signal: Signal, waiting: &Waiting) -> bool
+    ensures { result ≡ is_one target signal waiting.now }
+{
+    same_target(target, waiting.target) && waiting.instance.sig == signal
+}
+
+pub(crate) fn same_target(a: Target, b: Target) -> bool
+    ensures { result ≡ same_target a b }
+{
+    match (a, b) {
+        (Target::Thread(a), Target::Thread(b)) => a == b,
+        (Target::Group(a), Target::Group(b)) => a == b,
+        _ => false,
+    }
+}
+
+/// Appends what is picked as flushed, in order of acceptance.
+pub(crate) fn log_picked(
+    ended: &mut Vec<Ending>,
+    slots: &[Slot],
+    threads: &Threads,
+    picked: &Picked,
+)
+    requires { vec_len ended.old + length (standing slots.now) ≤ vec_capacity ended.old }
+    ensures items { ended.new.items ≡ ended.old.items ++ map (ending_of Flushed) (filter (is_picked threads.now picked.now) (standing slots.now)) }
+    ensures len { vec_len ended.new ≡ vec_len ended.old + length (filter (is_picked threads.now picked.now) (standing slots.now)) }
+    ensures capacity { vec_capacity ended.new ≡ vec_capacity ended.old }
+{
+    for slot in slots {
+        if !slot.gone && is_picked(threads, picked, &slot.waiting) {
+            ended.push_reserved(Ending {
+                number: slot.waiting.instance.n,
+                fate: Fate::Flushed,
+            });
+        }
+    }
+}
+
+/// Appends the numbers of what is picked, in order of acceptance, and counts them.
+pub(crate) fn note_picked(
+    slots: &[Slot],
+    threads: &Threads,
+    picked: &Picked,
+    gone: &mut Vec<u64>,
+) -> u64
+    requires { vec_len gone.old + length (standing slots.now) ≤ vec_capacity gone.old }
+    ensures count { result ≡ length (filter (is_picked threads.now picked.now) (standing slots.now)) }
+    ensures named { gone.new.items ≡ gone.old.items ++ map (λ q. q.instance.n) (filter (is_picked threads.now picked.now) (standing slots.now)) }
+    ensures capacity { vec_capacity gone.new ≡ vec_capacity gone.old }
+{
+    let mut count = 0;
+    for slot in slots {
+        if !slot.gone && is_picked(threads, picked, &slot.waiting) {
+            gone.push_reserved(slot.waiting.instance.n);
+            count += 1;
+        }
+    }
+    count
+}

@@ -1,0 +1,245 @@
+ghost use Rattle.std.specs.Prelude.{◌≡◌, ℕ, ◌<◌, ◌≤◌, ◌==◌, [], filter, OnErr, OnOk, if◌then◌else◌, length, not};
+ghost use Rattle.tr_table.specs.Rosters.{Counts, IsSmall, no_one, rewritten, roster_in, roster_of, unless_empty, with_last, without};
+ghost use Rattle.tr_tracee.specs.Threads.{in_group};
+
+use crate::counts::recounted;
+use arrayvec::ArrayVec;
+use indexmap::IndexMap;
+use std::alloc::{AllocError, Global};
+use std::marker::Model;
+use tr_tracee::Thread;
+
+/// The threads of one group: their ids in table order, and how many of them are in a standing.
+#[derive(Drop)]
+pub(crate) struct Roster {
+    ids: ArrayVec<u32, 64>,
+    live: usize,
+    dead: usize,
+    traced: usize,
+    marked: usize,
+}
+
+impl Model for Roster {
+    ghost use Rattle.tr_table.specs.Rosters.{RosterView};
+
+    ghost Value = { RosterView };
+
+    ghost view = { λ r. record { ids = r.ids.items; live = r.live; dead = r.dead; traced = r.traced; marked = r.marked } };
+}
+
+impl Roster {
+    /// The roster of a group of these threads.
+    pub(crate) fn collect(threads: &[Thread], tgid: u32) -> Roster
+        requires { length (filter (in_group tgid) threads.now) ≤ 64 }
+        ensures { result ≡ roster_of (filter (in_group tgid) threads.now) }
+    {
+        let mut roster = Roster::new();
+        for thread in threads {
+            if thread.group == tgid {
+                roster.push(thread);
+            }
+        }
+        roster
+    }
+
+    fn new() -> Roster
+        ensures { result ≡ no_one }
+    {
+        Roster {
+            ids: ArrayVec::new(),
+            live: 0,
+            dead: 0,
+            traced: 0,
+            marked: 0,
+        }
+    }
+
+    /// A thread comes last.
+    fn push(&mut self, thread: &Thread)
+        requires room { length self.old.ids < 64 }
+        requires small { IsSmall self.old }
+        ensures { self.new ≡ with_last thread.now self.old }
+    {
+        self.ids.push(thread.id);
+        self.live = recounted(self.live, false, thread.life.is_live());
+        self.dead = recounted(self.dead, false, thread.life.is_dead());
+        self.traced = recounted(self.traced, false, thread.is_traced());
+        self.marked = recounted(self.marked, false, thread.stop_mark);
+    }
+
+    /// A thread goes, and those after it move up.
+    fn remove(&mut self, thread: &Thread)
+        requires small { IsSmall self.old }
+        requires counts { Counts thread.now self.old }
+        ensures { self.new ≡ without thread.now self.old }
+    {
+        let id = thread.id;
+        self.ids.retain(|n| *n != id);
+        self.live = recounted(self.live, thread.life.is_live(), false);
+        self.dead = recounted(self.dead, thread.life.is_dead(), false);
+        self.traced = recounted(self.traced, thread.is_traced(), false);
+        self.marked = recounted(self.marked, thread.stop_mark, false);
+    }
+
+    /// Counts a thread as what it has become.
+    fn rewrite(&mut self, before: &Thread, after: &Thread)
+        requires small { IsSmall self.old }
+        requires counts { Counts before.now self.old }
+        ensures { self.new ≡ rewritten before.now after.now self.old }
+    {
+        self.live = recounted(self.live, before.life.is_live(), after.life.is_live());
+        self.dead = recounted(self.dead, before.life.is_dead(), after.life.is_dead());
+        self.traced = recounted(self.traced, before.is_traced(), after.is_traced());
+        self.marked = recounted(self.marked, before.stop_mark, after.stop_mark);
+    }
+}
+
+/// The roster of each group that has threads.
+#[derive(Drop)]
+pub(crate) struct Rosters {
+    map: IndexMap<u32, Roster>,
+}
+
+impl Model for Rosters {
+    ghost use Rattle.std.specs.Prelude.{List, ℕ};
+    ghost use Rattle.tr_table.specs.Rosters.{RosterView};
+
+    ghost Value = { List (ℕ × RosterView) };
+
+    ghost view = { λ r. r.map.entries };
+}
+
+impl Rosters {
+    pub(crate) fn new(alloc: Global) -> Rosters
+        ensures { result ≡ [] }
+    {
+        Rosters {
+            map: IndexMap::new(alloc),
+        }
+    }
+
+    /// The ids of a group's threads, in table order.
+    pub(crate) fn ids(&self, tgid: u32) -> &[u32]
+        ensures { result.now ≡ (roster_in self.now tgid).ids }
+    {
+        match self.map.get(&tgid) {
+            Some(roster) => roster.ids.as_slice(),
+            None => &[],
+        }
+    }
+
+    /// How many threads a group has.
+    pub(crate) fn count(&self, tgid: u32) -> usize
+        ensures { result ≡ length (roster_in self.now tgid).ids }
+    {
+        match self.map.get(&tgid) {
+            Some(roster) => roster.ids.len(),
+            None => 0,
+        }
+    }
+
+    /// A copy of the ids of a group's threads.
+    pub(crate) fn copy_ids(&self, tgid: u32) -> ArrayVec<u32, 64>
+        ensures { result.items ≡ (roster_in self.now tgid).ids }
+    {
+        let mut ids = ArrayVec::new();
+        if let Some(roster) = self.map.get(&tgid) {
+            for id in roster.ids.as_slice() {
+                ids.push(*id);
+            }
+        }
+        ids
+    }
+
+    /// Whether all threads of a group are dead.
+    pub(crate) fn all_dead(&self, tgid: u32) -> bool
+        ensures { result ≡ ((roster_in self.now tgid).dead == length (roster_in self.now tgid).ids) }
+    {
+        match self.map.get(&tgid) {
+            Some(roster) => roster.dead == roster.ids.len(),
+            None => true,
+        }
+    }
+
+    pub(crate) fn has_live(&self, tgid: u32) -> bool
+        ensures { result ≡ not ((roster_in self.now tgid).live == 0) }
+    {
+        match self.map.get(&tgid) {
+            Some(roster) => roster.live != 0,
+            None => false,
+        }
+    }
+
+    pub(crate) fn has_traced(&self, tgid: u32) -> bool
+        ensures { result ≡ not ((roster_in self.now tgid).traced == 0) }
+    {
+        match self.map.get(&tgid) {
+            Some(roster) => roster.traced != 0,
+            None => false,
+        }
+    }
+
+    pub(crate) fn has_stop_mark(&self, tgid: u32) -> bool
+        ensures { result ≡ not ((roster_in self.now tgid).marked == 0) }
+    {
+        match self.map.get(&tgid) {
+            Some(roster) => roster.marked != 0,
+            None => false,
+        }
+    }
+
+    /// A thread comes last in its group. Where memory is refused nothing has changed.
+    pub(crate) fn push(&mut self, thread: &Thread) -> Result<(), AllocError>
+        requires room { length (roster_in self.old thread.now.group).ids < 64 }
+        requires small { IsSmall (roster_in self.old thread.now.group) }
+        ensures ok { OnOk result ((g : ℕ) → roster_in self.new g ≡ (if thread.now.group == g then with_last thread.now (roster_in self.old g) else roster_in self.old g)) }
+        ensures err { OnErr result (self.new ≡ self.old) }
+    {
+        if let Some(roster) = self.map.get_mut(&thread.group) {
+            roster.push(thread);
+            return Ok(());
+        }
+        let mut roster = Roster::new();
+        roster.push(thread);
+        self.map.insert(thread.group, roster)?;
+        Ok(())
+    }
+
+    /// A thread of a group goes.
+    pub(crate) fn remove(&mut self, thread: &Thread)
+        requires small { IsSmall (roster_in self.old thread.now.group) }
+        requires counts { Counts thread.now (roster_in self.old thread.now.group) }
+        ensures { (g : ℕ) → roster_in self.new g ≡ (if thread.now.group == g then unless_empty (without thread.now (roster_in self.old g)) else roster_in self.old g) }
+    {
+        if let Some(roster) = self.map.get_mut(&thread.group) {
+            roster.remove(thread);
+            if roster.ids.is_empty() {
+                let _empty = self.map.swap_remove(&thread.group);
+            }
+        }
+    }
+
+    /// A group that has threads has this roster from now on.
+    pub(crate) fn set(&mut self, tgid: u32, roster: Roster)
+        requires { 0 < length (roster_in self.old tgid).ids }
+        ensures { (g : ℕ) → roster_in self.new g ≡ (if tgid == g then unless_empty roster else roster_in self.old g) }
+    {
+        if roster.ids.is_empty() {
+            let _empty = self.map.swap_remove(&tgid);
+        } else if let Some(former) = self.map.get_mut(&tgid) {
+            *former = roster;
+        }
+    }
+
+    /// A thread of a group has become another one of it.
+    pub(crate) fn rewrite(&mut self, before: &Thread, after: &Thread)
+        requires there { 0 < length (roster_in self.old before.now.group).ids }
+        requires small { IsSmall (roster_in self.old before.now.group) }
+        requires counts { Counts before.now (roster_in self.old before.now.group) }
+        ensures { (g : ℕ) → roster_in self.new g ≡ (if before.now.group == g then rewritten before.now after.now (roster_in self.old g) else roster_in self.old g) }
+    {
+        if let Some(roster) = self.map.get_mut(&before.group) {
+            roster.rewrite(before, after);
+        }
+    }
+}

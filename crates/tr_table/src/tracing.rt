@@ -1,0 +1,202 @@
+ghost use Rattle.std.specs.Prelude.{List, ◌≡◌, ◌==◌, ℕ, ◌+◌, ◌<◌, ◌≤◌, ◌++◌, ◌∷◌, [], OnOk, filter, get_or, length, not, remove, slice_set, vec_capacity, vec_len};
+ghost use Rattle.std.specs.List.Sorted.{IsPartitionedBy};
+ghost use Rattle.tr_tracee.specs.declared.thread.Thread.{Thread};
+ghost use Rattle.tr_model.specs.Journals.{ids_of, occurs};
+ghost use Rattle.tr_table.specs.Held.{bool_to_nat};
+ghost use Rattle.tr_table.specs.Tracing.{HasPlace, HasPlaces, IsTracing, is_before, relisted, tracer, waiter};
+
+use crate::index::Index;
+use crate::multiset::Multiset;
+use std::alloc::{AllocError, Global};
+use std::marker::Model;
+use tr_tracee::Thread;
+
+/// What is kept of the threads for the waits of tracers.
+#[derive(Drop)]
+pub(crate) struct Tracing {
+    /// The tracers of all tracees.
+    tracers: Multiset,
+    /// The tracers of those that have a report.
+    waiters: Multiset,
+    /// The ids of those, in table order.
+    reporting: Vec<u32>,
+}
+
+impl Model for Tracing {
+    ghost use Rattle.std.specs.Prelude.{vec_capacity};
+    ghost use Rattle.tr_table.specs.Tracing.{TracingView};
+
+    ghost Value = { TracingView };
+
+    ghost view = { λ t. record { tracers = t.tracers; waiters = t.waiters; reporting = t.reporting.items; places = vec_capacity t.reporting } };
+}
+
+fn tracer_of(thread: &Thread) -> Option<u32>
+    ensures { result ≡ tracer thread.now }
+{
+    match &thread.trace {
+        Some(trace) => Some(trace.tracer),
+        None => None,
+    }
+}
+
+fn waiter_of(thread: &Thread) -> Option<u32>
+    ensures { result ≡ waiter thread.now }
+{
+    if thread.report.is_some() {
+        tracer_of(thread)
+    } else {
+        None
+    }
+}
+
+/// Whether the record of an id stands before a place.
+fn is_before(index: &Index, place: usize, id: u32) -> bool
+    ensures { result ≡ is_before index.now place id }
+{
+    match index.place(id) {
+        Some(at) => at < place,
+        None => false,
+    }
+}
+
+/// How many of these ids stand before a place.
+fn rank(ids: &[u32], index: &Index, place: usize) -> usize
+    requires { IsPartitionedBy (is_before index.now place) ids.now }
+    ensures { result ≡ length (filter (is_before index.now place) ids.now) }
+{
+    ids.partition_point(|id| is_before(index, place, *id))
+}
+
+/// The id at a place comes to those that are listed, or goes, or neither.
+fn relist(ids: &mut Vec<u32>, index: &Index, place: usize, id: u32, was: bool, is: bool)
+    requires parted { IsPartitionedBy (is_before index.now place) ids.old.items }
+    requires there { length (filter (is_before index.now place) ids.old.items) + bool_to_nat was ≤ length ids.old.items }
+    requires room { length ids.old.items + bool_to_nat is ≤ vec_capacity ids.old + bool_to_nat was }
+    ensures items { ids.new.items ≡ relisted was is (length (filter (is_before index.now place) ids.old.items)) id ids.old.items }
+    ensures capacity { vec_capacity ids.new ≡ vec_capacity ids.old }
+{
+    if was && !is {
+        let rank = rank(ids, index, place);
+        let _id = ids.remove(rank);
+    }
+    if !was && is {
+        let rank = rank(ids, index, place);
+        let _inserted = ids.insert(rank, id);
+    }
+}
+
+impl Tracing {
+    pub(crate) fn new(alloc: Global) -> Tracing
+        ensures { IsTracing [] result }
+    {
+        Tracing {
+            tracers: Multiset::new(alloc),
+            waiters: Multiset::new(alloc),
+            reporting: Vec::new(alloc),
+        }
+    }
+
+    /// Makes places for so many threads. What is kept stays as it is.
+    pub(crate) fn grow(&mut self, count: usize) -> Result<(), AllocError>
+        ensures kept { (ts : List Thread) → IsTracing ts self.old → IsTracing ts self.new }
+        ensures places { (n : ℕ) → HasPlaces n self.old → HasPlaces n self.new }
+        ensures ok { OnOk result (HasPlaces count self.new) }
+    {
+        self.tracers.reserve(count)?;
+        self.waiters.reserve(count)?;
+        self.reporting
+            .reserve(count.saturating_sub(self.reporting.len()))
+    }
+
+    /// Whether the actor traces anybody.
+    pub(crate) fn has_tracees(&self, actor: u32) -> bool
+        ensures { result ≡ not (occurs actor self.now.tracers.numbers == 0) }
+    {
+        self.tracers.contains(actor)
+    }
+
+    /// Whether a tracee of the actor has a report.
+    pub(crate) fn has_reports(&self, actor: u32) -> bool
+        ensures { result ≡ not (occurs actor self.now.waiters.numbers == 0) }
+    {
+        self.waiters.contains(actor)
+    }
+
+    /// The ids of all tracees that have a report, in table order.
+    pub(crate) fn reporting(&self) -> &[u32]
+        ensures { result.now ≡ self.now.reporting }
+    {
+        self.reporting.as_slice()
+    }
+
+    /// A thread comes last.
+    pub(crate) fn add(&mut self, thread: &Thread)
+        requires { HasPlace self.old }
+        ensures kept { (ts : List Thread) → IsTracing ts self.old → IsTracing (ts ++ thread.now ∷ []) self.new }
+        ensures places { (n : ℕ) → HasPlaces n self.old → HasPlaces n self.new }
+    {
+        let waiter = waiter_of(thread);
+        self.tracers.recount(None, tracer_of(thread));
+        self.waiters.recount(None, waiter);
+        if waiter.is_some() {
+            self.reporting.push_reserved(thread.id);
+        }
+    }
+
+    /// The thread at a place is to become this one, which has its id.
+    #[inline(always)]
+    pub(crate) fn rewrite(
+        &mut self,
+        threads: &[Thread],
+        index: &Index,
+        place: usize,
+        thread: &Thread,
+    )
+        requires kept { IsTracing threads.now self.old }
+        requires room { HasPlaces (length threads.now) self.old }
+        requires indexed { index.now ≡ ids_of threads.now }
+        requires once { (n : ℕ) → occurs n index.now ≤ 1 }
+        requires place { place < length threads.now }
+        requires same { (d : Thread) → thread.now.id ≡ (get_or threads.now place d).id }
+        ensures kept { IsTracing (slice_set threads.now place thread.now) self.new }
+        ensures places { (n : ℕ) → HasPlaces n self.old → HasPlaces n self.new }
+    {
+        let former = &threads[place];
+        let (was, is) = (waiter_of(former), waiter_of(thread));
+        relist(
+            &mut self.reporting,
+            index,
+            place,
+            thread.id,
+            was.is_some(),
+            is.is_some(),
+        );
+        self.tracers.recount(tracer_of(former), tracer_of(thread));
+        self.waiters.recount(was, is);
+    }
+
+    /// The thread at a place is to go.
+    pub(crate) fn forget(&mut self, threads: &[Thread], index: &Index, place: usize)
+        requires kept { IsTracing threads.now self.old }
+        requires room { HasPlaces (length threads.now) self.old }
+        requires indexed { index.now ≡ ids_of threads.now }
+        requires once { (n : ℕ) → occurs n index.now ≤ 1 }
+        requires place { place < length threads.now }
+        ensures kept { IsTracing (remove threads.now place) self.new }
+        ensures places { (n : ℕ) → HasPlaces n self.old → HasPlaces n self.new }
+    {
+        let former = &threads[place];
+        let was = waiter_of(former);
+        relist(
+            &mut self.reporting,
+            index,
+            place,
+            former.id,
+            was.is_some(),
+            false,
+        );
+        self.tracers.recount(tracer_of(former), None);
+        self.waiters.recount(was, None);
+    }
+}
