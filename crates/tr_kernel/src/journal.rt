@@ -8,10 +8,18 @@ use std::marker::Model;
 use tr_model::{Entry, Reply};
 
 /// The entries of a kernel, each with what is kept of its reply.
-#[derive(Drop)]
 pub(crate) struct Journal {
     entries: Vec<Entry>,
     replies: Vec<KeptReply>,
+}
+
+impl Drop for Journal {
+    fn drop(self) {
+        let Journal {
+            entries: _,
+            replies: _,
+        } = self;
+    }
 }
 
 impl Model for Journal {

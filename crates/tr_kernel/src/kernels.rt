@@ -41,7 +41,6 @@ pub enum StartFault {
 
 /// A table of threads and groups, the journal that replays to it, the reply of each entry and the fate of each accepted
 /// signal.
-#[derive(Drop)]
 pub struct Kernel {
     start: Start,
     step: Step,
@@ -49,6 +48,19 @@ pub struct Kernel {
     fates: Fates,
     notes: Notes,
     alloc: Global,
+}
+
+impl Drop for Kernel {
+    fn drop(self) {
+        let Kernel {
+            start: _,
+            step: _,
+            journal: _,
+            fates: _,
+            notes: _,
+            alloc: _,
+        } = self;
+    }
 }
 
 impl Model for Kernel {

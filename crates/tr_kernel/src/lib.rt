@@ -17,6 +17,3 @@ mod restarts;
 
 pub use answers::{Answer, Receipt};
 pub use kernels::{Kernel, StartFault};
-
-#[cfg(test)]
-mod tests;

@@ -61,11 +61,20 @@ pub(crate) struct IdTransfer {
 
 /// The notes of a journal: one for each entry, and all groups whose death began, in order. Of each id that passed to
 /// another thread stands how often.
-#[derive(Drop)]
 pub(crate) struct Notes {
     pub(crate) list: NoteList,
     pub(crate) dying: Vec<u32>,
     pub(crate) transfers: Vec<IdTransfer>,
+}
+
+impl Drop for Notes {
+    fn drop(self) {
+        let Notes {
+            list: _,
+            dying: _,
+            transfers: _,
+        } = self;
+    }
 }
 
 // What the table shows before the step

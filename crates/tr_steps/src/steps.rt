@@ -12,7 +12,6 @@ use tr_table::Table;
 use tr_tracee::Thread;
 
 /// A step under way: the table, and what the step did so far. Between two steps, what the last one did.
-#[derive(Drop)]
 pub struct Step {
     pub(crate) table: Table,
     pub(crate) ended: Vec<Ending>,
@@ -23,6 +22,21 @@ pub struct Step {
     pub(crate) taken_from: Option<Target>,
     /// For how many more moves there is a place in each list. 0 between two steps.
     pub(crate) room: usize,
+}
+
+impl Drop for Step {
+    fn drop(self) {
+        let Step {
+            table: _,
+            ended: _,
+            raises: _,
+            dying: _,
+            killed: _,
+            renamed: _,
+            taken_from: _,
+            room: _,
+        } = self;
+    }
 }
 
 impl Model for Step {

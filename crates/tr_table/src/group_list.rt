@@ -19,11 +19,20 @@ use tr_tracee::Report;
 use tr_wait::Status;
 
 /// The groups of a table, in table order, each found by its id. No two have one id.
-#[derive(Drop)]
 pub(crate) struct Groups {
     list: Vec<Group>,
     index: Index,
     stopping: usize,
+}
+
+impl Drop for Groups {
+    fn drop(self) {
+        let Groups {
+            list: _,
+            index: _,
+            stopping: _,
+        } = self;
+    }
 }
 
 impl Model for Groups {

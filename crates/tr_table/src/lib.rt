@@ -28,8 +28,6 @@ mod rows;
 mod slots;
 mod starts;
 mod table;
-#[cfg(test)]
-mod tests;
 mod threads;
 mod tracees;
 mod tracing;

@@ -24,13 +24,24 @@ use tr_sigset::{SigSet, Signal};
 use tr_tracee::Thread;
 
 /// All that waits, in slots that stand in order of acceptance, with an index of its lines and queues.
-#[derive(Drop)]
 pub(crate) struct Pending {
     pub(crate) slots: Vec<Slot>,
     pub(crate) lines: IndexMap<LineKey, Line>,
     pub(crate) queues: IndexMap<Target, Queue>,
     pub(crate) count: usize,
     pub(crate) room: usize,
+}
+
+impl Drop for Pending {
+    fn drop(self) {
+        let Pending {
+            slots: _,
+            lines: _,
+            queues: _,
+            count: _,
+            room: _,
+        } = self;
+    }
 }
 
 impl Pending {

@@ -11,7 +11,6 @@ use tr_model::Group;
 use tr_tracee::Thread;
 
 /// The kernel's table: its threads and groups in table order, and all pending instances in order of acceptance.
-#[derive(Drop)]
 pub struct Table {
     pub(crate) threads: Threads,
     pub(crate) groups: Groups,
@@ -35,6 +34,20 @@ impl Model for Table {
     } };
 
     ghost invariant = { λ t. IsTable t.threads t.groups t.pending t.accepted };
+}
+
+impl Drop for Table {
+    fn drop(self) {
+        let Table {
+            threads: _,
+            groups: _,
+            pending: _,
+            accepted: _,
+            raised: _,
+            limit: _,
+            entries: _,
+        } = self;
+    }
 }
 
 impl Table {

@@ -25,12 +25,22 @@ use tr_tracee::{End, Options, Stop, Thread, Trace};
 use tr_wait::Status;
 
 /// The threads of a table, in table order.
-#[derive(Drop)]
 pub(crate) struct Threads {
     pub(crate) list: Vec<Thread>,
     pub(crate) index: Index,
     pub(crate) rosters: Rosters,
     pub(crate) tracing: Tracing,
+}
+
+impl Drop for Threads {
+    fn drop(self) {
+        let Threads {
+            list: _,
+            index: _,
+            rosters: _,
+            tracing: _,
+        } = self;
+    }
 }
 
 impl Model for Threads {

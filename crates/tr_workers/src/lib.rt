@@ -13,12 +13,9 @@ mod teams;
 mod working;
 
 pub use calls::Calls;
-pub use ports::{Gate, Port, Told};
+pub use ports::{Gate, Port, Told, keep};
 pub use receipts::Receipts;
 pub use runs::{RunFault, run};
 pub use scripts::{Item, Plan, Repeat, Script, Served, are_distinct};
 pub use settling::{Unsettled, settle};
 pub use working::{Ended, Tally, work};
-
-#[cfg(test)]
-mod tests;

@@ -3,11 +3,11 @@ mod laws;
 mod stops;
 mod tracer_ends;
 
-use super::*;
 use std::fmt::Debug;
 use std::process::Abort;
 use std::test::Fail;
 use tr_group::Action;
+use tr_kernel::{Kernel, StartFault};
 use tr_model::{Event, Fate, Refusal, Reply, Target, Totals};
 use tr_sigset::{SigSet, Signal};
 use tr_table::{GroupStart, Items, Start};

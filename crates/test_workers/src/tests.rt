@@ -7,7 +7,6 @@ mod places;
 mod refused;
 mod turns;
 
-use super::*;
 use gates::{Meeting, Open, Second};
 use std::alloc::{AllocError, Global};
 use std::fmt::Debug;
@@ -19,6 +18,7 @@ use std::thread::Threads;
 use tr_model::Event;
 use tr_sigset::SigSet;
 use tr_table::{GroupStart, Items, Start};
+use tr_workers::{Ended, Item, Plan, Receipts, Repeat, Script, run, settle};
 
 const KILL: Event = Event::Kill { tgid: 10, sig: 10 };
 

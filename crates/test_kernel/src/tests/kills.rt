@@ -3,9 +3,9 @@ use super::stops::{
     some_stopped, starter_word, tracer_word,
 };
 use super::{expect_answer, has_fate, same, sent};
-use crate::Kernel;
 use std::process::Abort;
 use std::test::Fail;
+use tr_kernel::Kernel;
 use tr_model::{Event, Fate, Reply};
 use tr_wait::{WaitFlags, Which};
 

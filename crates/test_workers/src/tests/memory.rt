@@ -2,14 +2,12 @@ ghost use Rattle.std.specs.Prelude.{◌≡◌, ◌<◌, ◌^◌, []};
 
 use super::gates::Open;
 use super::{item, same};
-use crate::ports::{Port, Told, keep};
-use crate::scripts::{Item, Plan, Repeat, Script};
-use crate::working::{Ended, Tally, work};
 use std::alloc::Global;
 use std::mem;
 use std::test::Fail;
 use tr_hub::{Answer, Receipt};
 use tr_model::{Event, Refusal, Reply};
+use tr_workers::{Ended, Item, Plan, Port, Repeat, Script, Tally, Told, keep, work};
 
 /// A port in memory: by turns an entry that accepts two signals, a reply and a refusal.
 #[derive(Drop)]

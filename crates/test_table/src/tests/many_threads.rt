@@ -1,5 +1,5 @@
 use super::*;
-use crate::ThreadChange;
+use tr_table::ThreadChange;
 use tr_tracee::{Options, Trace};
 
 /// A group of one thread.

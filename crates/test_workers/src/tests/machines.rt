@@ -1,8 +1,5 @@
 use super::gates::Open;
 use super::{item, same, start};
-use crate::calls::Calls;
-use crate::scripts::{Item, Plan, Repeat, Script, Served};
-use crate::{Ended, run, settle};
 use std::alloc::Global;
 use std::process::Abort;
 use std::test::Fail;
@@ -10,6 +7,7 @@ use tr_hub::{Answer, Receipt};
 use tr_model::{Event, Refusal, Reply};
 use tr_table::Items;
 use tr_wait::{WaitFlags, Which};
+use tr_workers::{Calls, Ended, Item, Plan, Repeat, Script, Served, run, settle};
 
 const EXIT: Event = Event::Exit { tid: 10, code: 3 };
 

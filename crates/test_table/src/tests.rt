@@ -7,7 +7,6 @@ mod opening;
 mod pending;
 mod roster;
 
-use super::*;
 use std::alloc::{AllocError, Global};
 use std::fmt::Debug;
 use std::process::Abort;
@@ -16,6 +15,7 @@ use tr_group::{Action, Members};
 use tr_model::{Ending, Fate, Target};
 use tr_pending::{Info, Instance};
 use tr_sigset::{SigSet, Signal};
+use tr_table::{Flush, GroupStart, Items, Start, Table};
 use tr_tracee::{End, Life, Thread};
 
 const INFO: Info = Info {
@@ -132,7 +132,7 @@ fn thread(table: &Table, id: u32) -> Result<&Thread, Fail> {
 }
 
 /// Adds a thread with a new id to a group that has a place for it.
-#[tactic(auto, using(crate::proofs::Rosters::counted))]
+#[tactic(auto, using(tr_table::proofs::Rosters::counted))]
 fn add_new(table: &mut Table, thread: &Thread) -> Result<(), AllocError> {
     if table.find(thread.id).is_some() || table.count(thread.group) >= 64 {
         return Err(AllocError);

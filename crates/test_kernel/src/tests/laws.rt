@@ -1,9 +1,9 @@
 use super::stops::{Call, DIE, SEIZE, TAKE};
 use super::{catching, has_fate, kernel, same};
-use crate::Kernel;
-use crate::laws::{consumed_differ, in_order, only_dying, restart_between};
 use std::process::Abort;
 use std::test::Fail;
+use tr_kernel::Kernel;
+use tr_kernel::laws::{consumed_differ, in_order, only_dying, restart_between};
 use tr_model::{Event, Fate, Refusal, Reply};
 use tr_sigset::SigSet;
 use tr_tracee::Options;

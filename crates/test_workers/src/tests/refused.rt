@@ -1,11 +1,8 @@
 //! These hold whichever allocation fails, also that of a thread: `rt try --test --fail-alloc N` refuses the Nth.
 
 use super::gates::Open;
+use super::memory::ByTurns;
 use super::{item, kills, same, start};
-use crate::ports::Gate;
-use crate::scripts::{Plan, Script, Served};
-use crate::tests::memory::ByTurns;
-use crate::{Ended, Receipts, RunFault, run, settle, work};
 use std::alloc::{AllocError, Global};
 use std::process::Abort;
 use std::slice;
@@ -13,6 +10,7 @@ use std::sync::atomic::{AtomicU64, Ordering};
 use std::test::Fail;
 use tr_model::Event;
 use tr_table::{Items, Start};
+use tr_workers::{Ended, Gate, Plan, Receipts, RunFault, Script, Served, run, settle, work};
 
 /// Says yes at every turn, and counts the turns.
 #[derive(Drop)]

@@ -1,7 +1,7 @@
 use super::{kernel, same};
-use crate::Kernel;
 use std::process::Abort;
 use std::test::Fail;
+use tr_kernel::Kernel;
 use tr_model::{Event, Refusal, Reply};
 use tr_tracee::{Life, Options, Stop, Thread};
 use tr_wait::{WaitFlags, Which};

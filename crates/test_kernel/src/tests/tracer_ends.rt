@@ -3,9 +3,9 @@ use super::stops::{
     starter_word,
 };
 use super::{has_fate, same};
-use crate::Kernel;
 use std::process::Abort;
 use std::test::Fail;
+use tr_kernel::Kernel;
 use tr_model::{Event, Fate};
 
 // The end of a tracer: PTRACE_O_EXITKILL and "Detaching of the tracee" of ptrace(2).

@@ -1,15 +1,13 @@
 ghost use Rattle.std.specs.Prelude.{◌≡◌, ◌<◌, ◌^◌, []};
 
 use super::{KILL, item, same};
-use crate::ports::{Gate, Port, Told, keep};
-use crate::scripts::{Item, Plan, Repeat, Script};
-use crate::working::{Ended, work};
 use std::alloc::Global;
 use std::mem;
 use std::sync::atomic::{AtomicBool, AtomicU64, Ordering};
 use std::test::Fail;
 use tr_hub::{Answer, Receipt};
 use tr_model::{Event, Refusal};
+use tr_workers::{Ended, Gate, Item, Plan, Port, Repeat, Script, Told, keep, work};
 
 const WORKER: usize = 5;
 

@@ -1,0 +1,5 @@
+//! Tests of workers, their scripts and the settling through public calls.
+#![tactic(auto)]
+
+#[cfg(test)]
+mod tests;
