@@ -1,0 +1,75 @@
+#!/usr/bin/env python3
+"""Refuses memory to the built program, each allocation in turn, and threads likewise.
+
+usage: refuse_memory.py PROGRAM
+
+Each case of run_programs.py that ends with status 0 is run with its first allocation refused, then with its second, and so on until
+none was refused; once with that one alone, and once with all after it too. Each run has to end as the case says, or with status 3,
+`tracebox: NoMemory` on standard error, and a front of the text on standard output. The last line is 'N passed, M failed'.
+"""
+
+import os
+import pathlib
+import subprocess
+import sys
+import tempfile
+
+from run_programs import SECONDS, TOP, cases
+
+NO_MEMORY = b"tracebox: NoMemory\n"
+MODES = {"one": {}, "all after it": {"REFUSE_ON": "1"}, "a thread": {"REFUSE_THREADS": "1"}}
+
+
+def run(program, words, given, refusing):
+    """Runs the program, and returns its end, and whether something was refused to it."""
+    reads, writes = os.pipe()
+    told = {**refusing, "REFUSE_TELL": str(writes)}
+    try:
+        ran = subprocess.run([program, *words], input=given, capture_output=True, timeout=SECONDS, pass_fds=[writes], env=told)
+    finally:
+        os.close(writes)
+    with open(reads, "rb") as refused:
+        return ran, bool(refused.read())
+
+
+def fault(ran, out, err, status):
+    """Says what is wrong with a run to which something was refused, if anything is."""
+    if (ran.returncode, ran.stdout, ran.stderr) == (status, out, err):
+        return ""
+    if ran.returncode != 3 or ran.stderr != NO_MEMORY:
+        return f"it ended with status {ran.returncode} and {ran.stderr!r}"
+    return "" if out.startswith(ran.stdout) else "its text is no front of the text"
+
+
+def tried(program, library, mode, words, given, out, err, status):
+    """Refuses in turn, and yields what is wrong with each run."""
+    number, refused = 0, True
+    while refused:
+        number += 1
+        refusing = {"LD_PRELOAD": library, "REFUSE_AT": str(number), **MODES[mode]}
+        ran, refused = run(program, words, given, refusing)
+        yield number, fault(ran, out, err, status)
+
+
+def main(program):
+    passed, failed = 0, 0
+    with tempfile.TemporaryDirectory() as room:
+        library = f"{room}/refusing.so"
+        source = str(TOP / "tests" / "refusing.c")
+        subprocess.run(["cc", "-shared", "-fPIC", "-O1", "-o", library, source, "-ldl"], check=True)
+        for name, words, given, out, err, status in cases():
+            if status:
+                continue
+            for mode in MODES:
+                for number, why in tried(program, library, mode, words, given, out, err, status):
+                    passed, failed = passed + (not why), failed + bool(why)
+                    if why:
+                        print(f"{name}, {mode} refused at {number}: {why}")
+    print(f"{passed} passed, {failed} failed")
+    return 1 if failed or not passed else 0
+
+
+if __name__ == "__main__":
+    if len(sys.argv) != 2:
+        sys.exit(__doc__)
+    sys.exit(main(str(pathlib.Path(sys.argv[1]).resolve())))
