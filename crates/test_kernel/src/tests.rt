@@ -1,3 +1,4 @@
+mod heard;
 mod kills;
 mod laws;
 mod stops;

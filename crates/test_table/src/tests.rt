@@ -1,3 +1,4 @@
+mod full;
 mod lanes;
 mod many_threads;
 mod many_waiting;

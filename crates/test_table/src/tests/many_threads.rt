@@ -13,7 +13,7 @@ fn alone(alloc: Global, tgid: u32) -> Result<GroupStart, AllocError> {
 }
 
 /// The groups 1000, 2000 and so on to 16000, each of its leader alone.
-fn sixteen(alloc: Global) -> Result<Table, AllocError> {
+pub(super) fn sixteen(alloc: Global) -> Result<Table, AllocError> {
     let mut groups = Items::new(alloc);
     for n in 1..17 {
         groups.push(alone(alloc, n * 1000)?)?;
@@ -30,7 +30,7 @@ fn sixteen(alloc: Global) -> Result<Table, AllocError> {
 }
 
 /// A thousand threads in those groups, which stand by turns in the table.
-fn thousand(alloc: Global) -> Result<Table, Fail> {
+pub(super) fn thousand(alloc: Global) -> Result<Table, Fail> {
     let mut table = sixteen(alloc)?;
     for i in 1..63 {
         for n in 1..17 {
