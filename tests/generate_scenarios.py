@@ -223,4 +223,5 @@ def main():
             json.dump(Maker(f"{seed}-{number}").scenario(), file)
 
 
-main()
+if __name__ == "__main__":
+    main()
