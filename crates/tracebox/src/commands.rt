@@ -26,7 +26,19 @@ are made, or scripts of workers, which make their calls in rounds. Prints a line
 each worker, then the status of each thread, then how many signals were accepted and what became of\n\
 them. Nothing is printed of an input that is refused.";
 
-const SERIAL_END: &str = "Example:\n  \
+const SERIAL_END: &str =
+    "Events, as `do` names them, with their fields beside `actor` and `times`:\n  \
+kill tgid sig           tgkill tgid tid sig     sigqueue tgid sig value\n  \
+mask tid set            action tid sig how      pause tid\n  \
+take tid                take_any tgid           halt tid\n  \
+trap tid                die tid                 clone tid\n  \
+exec tid                finish tid              exit tid code\n  \
+exit_group tid code     attach tid              seize tid options\n  \
+interrupt tid           cont tid sig            listen tid\n  \
+detach tid sig          options tid options     message tid\n  \
+siginfo tid             tracer_exit             wait tid\n  \
+starter_wait tgid untraced continued\n\n\
+Example:\n  \
 echo '{\"version\":1,\"limit\":4,\"entries\":9,\"groups\":[{\"tgid\":10,\"name\":\"demo\",\"actions\":[],\n    \
 \"threads\":[{\"tid\":10,\"blocked\":[]}]}],\"steps\":[{\"actor\":900,\"do\":\"kill\",\"tgid\":10,\"sig\":15}]}' |\n    \
 tracebox serial\n\
@@ -107,7 +119,7 @@ fn decode_command<'a>(alloc: Global) -> Result<Command<'a>, AllocError>
     ensures local { IfOk result (λ c. (fields_of c).has_globals ≡ false) }
 {
     let word = Arg::new(alloc, "WORD")
-        .help("1 to 8 hexadecimal digits, without a prefix")
+        .help("1 to 8 hexadecimal digits, without a prefix, as `printf %x` prints a wait status")
         .action(ArgAction::Set)
         .required(true);
     Command::new(alloc, "decode")

@@ -96,6 +96,8 @@ fn help_is_written(rt: HostRuntime) {
         "JSON",
         "standard input",
         "line for each call",
+        "sigqueue tgid sig value\n",
+        "starter_wait tgid untraced continued\n",
         "Example",
     ];
     expect_help(&rt, &["tracebox", "serial", "--help"], &serial);
@@ -103,6 +105,7 @@ fn help_is_written(rt: HostRuntime) {
     let decode = [
         "Usage: tracebox decode <WORD>\n",
         "event stop SIGNAL",
+        "`printf %x`",
         "Example",
     ];
     expect_help(&rt, &["tracebox", "decode", "--help"], &decode);
