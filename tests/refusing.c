@@ -18,7 +18,8 @@ static atomic_long made;
 
 static int is_refused(int of_threads) {
     const char *at = getenv("REFUSE_AT");
-    if (!at || !getenv("REFUSE_THREADS") == of_threads) return 0;
+    int threads = getenv("REFUSE_THREADS") != NULL;
+    if (!at || threads != of_threads) return 0;
     long number = atomic_fetch_add(&made, 1) + 1, first = atol(at);
     if (number != first && !(number > first && getenv("REFUSE_ON"))) return 0;
     if (write(atoi(getenv("REFUSE_TELL")), "r", 1) != 1) abort();
