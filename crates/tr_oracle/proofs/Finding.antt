@@ -4,7 +4,6 @@ use Rattle.std.specs.Prelude.{take}
 use Rattle.tr_model.specs.declared.replies.Refusal.{Refusal}
 use Rattle.tr_model.specs.Compare.{Admitted, IsAdmitted, IsLet, IsVerdict, Lets}
 use Rattle.tr_model.specs.Compare as model
-use Rattle.tr_model.specs.Tables.{Table}
 use Rattle.tr_model.proofs.Compared.{answers_determine}
 use Rattle.tr_kernel.specs.Heard.{HasAnswered}
 use Rattle.tr_kernel.specs.States.{IsWithheld, State}
@@ -35,17 +34,14 @@ further k n j e = omega (arith, e)
 below : (j m : ℕ) → j < m → suc j < suc m
 below j m l = omega (arith, l)
 
--- what is admitted after a first answer is so after the only table that it leads to
-after_first : (T M U : Table) (x : model.Told) (xs : List model.Told) → Lets T x.call x.answer M → Admitted T (x ∷ xs) U → Admitted M xs U
-after_first T M U x xs h a = subst (λ N. Admitted N xs U) (answers_determine T a.0 M x.call x.answer a.1 h) a.2
-
 -- the first answer is given, and then what is found in the rest
 pub found_next : (n : ℕ) (s m : State) (x : model.Told) (xs : List model.Told) (r : Result Verdict Unheard) (u : State) →
     Lets s.table x.call x.answer m.table → HasAnswered s x.call.actor x.call.event x.answer m → FindsFrom (n + 1) m xs r u → FindsFrom n s (x ∷ xs) r u
 found_next n s m x xs (Ok Agrees) u h g f = ((m.table, h, f.0), (m, h, g, f.1))
 found_next n s m x xs (Ok (Differs k)) u h g f =
     let v = f.2 in
-    let beyond : IsAdmitted s.table (take (suc (suc f.0)) (x ∷ xs)) → ⊥ = λ a. v.2 (a.0, after_first s.table m.table a.0 x (take (suc f.0) xs) h a.1) in
+    let rest = take (suc f.0) xs in
+    let beyond : IsAdmitted s.table (x ∷ rest) → ⊥ = λ a. v.2 (a.0, subst (λ N. Admitted N rest a.0) (answers_determine s.table a.1.0 m.table x.call x.answer a.1.1 h) a.1.2) in
     (suc f.0, further k n f.0 f.1, (below f.0 (length xs) v.0, (v.1.0, (m.table, h, v.1.1)), beyond), (m, h, g, f.3))
 found_next n s m x xs (Err e) u h g f =
     (suc f.0, further e.place n f.0 f.1, below f.0 (length xs) f.2, (f.3.0, (m.table, h, f.3.1)), (m, h, g, f.4), f.5)
