@@ -1,6 +1,7 @@
 /* Refuses memory, or a thread, to a program that loads this first (LD_PRELOAD): the call of number REFUSE_AT of malloc, calloc,
    realloc and posix_memalign together, and all after it where REFUSE_ON is set, or that call of pthread_create where
-   REFUSE_THREADS is set. A byte on the descriptor REFUSE_TELL says that one was refused. */
+   REFUSE_THREADS is set. A byte on the descriptor REFUSE_TELL says that one was refused; where REFUSE_NONE is set, none is, and
+   a byte says that memory was asked for. */
 #define _GNU_SOURCE
 #include <dlfcn.h>
 #include <errno.h>
@@ -16,13 +17,18 @@ extern void *__libc_memalign(size_t, size_t);
 
 static atomic_long made;
 
+static void tell(void) {
+    if (write(atoi(getenv("REFUSE_TELL")), "r", 1) != 1) abort();
+}
+
 static int is_refused(int of_threads) {
     const char *at = getenv("REFUSE_AT");
     int threads = getenv("REFUSE_THREADS") != NULL;
+    if (getenv("REFUSE_NONE") && !of_threads) tell();
     if (!at || threads != of_threads) return 0;
     long number = atomic_fetch_add(&made, 1) + 1, first = atol(at);
     if (number != first && !(number > first && getenv("REFUSE_ON"))) return 0;
-    if (write(atoi(getenv("REFUSE_TELL")), "r", 1) != 1) abort();
+    tell();
     errno = of_threads ? EAGAIN : ENOMEM;
     return 1;
 }
