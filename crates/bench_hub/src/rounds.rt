@@ -107,8 +107,14 @@ fn round<E: Parts + Send + Sync, A: Parts + Send + Sync, R: Threads + Wait + Clo
 ) -> io::Result<(f64, u64)>
     requires empty { kernel.journal ≡ [] }
     requires start { kernel.start ≡ E.opening }
-    requires entries { (ledgers.0.name ≡ E.name) × (ledgers.0.parts ≡ E.parts) × (E.all ≡ E.parts) × (E.all ≡ 5) }
-    requires accepted { (ledgers.1.name ≡ A.name) × (ledgers.1.parts ≡ A.parts) × (A.all ≡ A.parts) × (A.all ≡ 5) }
+    requires entries { (ledgers.0.name ≡ E.name)
+        × (ledgers.0.parts ≡ E.parts)
+        × (E.all ≡ E.parts)
+        × (E.all ≡ 5) }
+    requires accepted { (ledgers.1.name ≡ A.name)
+        × (ledgers.1.parts ≡ A.parts)
+        × (A.all ≡ A.parts)
+        × (A.all ≡ 5) }
 {
     let (entries, accepted) = ledgers;
     let Ok((hub, seats)) = Hub::<E, A>::new(alloc, entries, accepted, kernel, &ACTORS) else {

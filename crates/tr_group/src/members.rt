@@ -25,7 +25,9 @@ pub trait Members {
     /// Writes the record of the thread at that place. Its id and its group stay.
     fn put(&mut self, tgid: u32, i: usize, thread: Thread)
         requires place { i < count_in tgid (threads self.old) }
-        requires same { (t : Thread) → member tgid i (threads self.old) ≡ Some t → (t.id ≡ thread.id) × (t.group ≡ thread.group) }
+        requires same { (t : Thread)
+            → member tgid i (threads self.old) ≡ Some t
+            → (t.id ≡ thread.id) × (t.group ≡ thread.group) }
         ensures { threads self.new ≡ put_member tgid i thread (threads self.old) };
 
     /// Makes a change of each thread of the group, in one walk.
@@ -94,7 +96,8 @@ pub fn initiate<M: Members>(members: &mut M, tgid: u32)
 /// A SIGCONT came: each live seized thread of the group gets the note mark, and where a group-stop is in effect its
 /// stop marks go, nobody takes part in it any more and stopped threads run.
 pub fn continue_all<M: Members>(members: &mut M, tgid: u32, in_effect: bool)
-    ensures { M.threads members.new ≡ map (at_group tgid (continued_by in_effect)) (M.threads members.old) }
+    ensures { M.threads members.new
+        ≡ map (at_group tgid (continued_by in_effect)) (M.threads members.old) }
 {
     members.change_all(tgid, &MemberChange::Continue(in_effect));
 }
@@ -116,8 +119,10 @@ pub fn begin_death<M: Members>(
     end: &End,
     gone: &mut Vec<u64>,
 )
-    requires { vec_len gone.old + length (held_in tgid (M.threads members.old)) ≤ vec_capacity gone.old }
-    ensures threads { M.threads members.new ≡ map (at_group tgid (begun_to_leave kill end.now)) (M.threads members.old) }
+    requires { vec_len gone.old + length (held_in tgid (M.threads members.old))
+        ≤ vec_capacity gone.old }
+    ensures threads { M.threads members.new
+        ≡ map (at_group tgid (begun_to_leave kill end.now)) (M.threads members.old) }
     ensures gone { gone.new.items ≡ gone.old.items ++ held_in tgid (M.threads members.old) }
     ensures capacity { vec_capacity gone.new ≡ vec_capacity gone.old }
 {
@@ -128,14 +133,16 @@ pub fn begin_death<M: Members>(
 /// Each thread of the group that isn't dead begins to leave with this end, as when the group begins to die; told where
 /// `kill` says that KILL did it. What they hold is the caller's to tell first.
 pub fn leave_all<M: Members>(members: &mut M, tgid: u32, kill: bool, end: &End)
-    ensures { M.threads members.new ≡ map (at_group tgid (begun_to_leave kill end.now)) (M.threads members.old) }
+    ensures { M.threads members.new
+        ≡ map (at_group tgid (begun_to_leave kill end.now)) (M.threads members.old) }
 {
     members.change_all(tgid, &MemberChange::Leave(kill, *end));
 }
 
 /// Appends the numbers that the threads of a group hold.
 fn tell_held<M: Members>(members: &M, tgid: u32, gone: &mut Vec<u64>)
-    requires { vec_len gone.old + length (held_in tgid (M.threads members.now)) ≤ vec_capacity gone.old }
+    requires { vec_len gone.old + length (held_in tgid (M.threads members.now))
+        ≤ vec_capacity gone.old }
     ensures gone { gone.new.items ≡ gone.old.items ++ held_in tgid (M.threads members.now) }
     ensures capacity { vec_capacity gone.new ≡ vec_capacity gone.old }
 {
@@ -147,9 +154,11 @@ fn tell_held<M: Members>(members: &M, tgid: u32, gone: &mut Vec<u64>)
 }
 
 fn tell(thread: &Thread, gone: &mut Vec<u64>)
-    requires { vec_len gone.old + length (number_held (held thread.now.life)) ≤ vec_capacity gone.old }
+    requires { vec_len gone.old + length (number_held (held thread.now.life))
+        ≤ vec_capacity gone.old }
     ensures gone { gone.new.items ≡ gone.old.items ++ number_held (held thread.now.life) }
-    ensures len { vec_len gone.new ≡ vec_len gone.old + length (number_held (held thread.now.life)) }
+    ensures len { vec_len gone.new
+        ≡ vec_len gone.old + length (number_held (held thread.now.life)) }
     ensures capacity { vec_capacity gone.new ≡ vec_capacity gone.old }
 {
     if let Some(instance) = thread.life.held() {

@@ -35,12 +35,19 @@ impl<E: Parts, A: Parts> Model for Held<E, A> {
 
     ghost Value = { Locked };
 
-    ghost view = { λ h. record { kernel = h.kernel; asked = h.asked.items; room = vec_capacity h.asked - vec_len h.asked } };
+    ghost view = { λ h. record {
+      kernel = h.kernel;
+      asked = h.asked.items;
+      room = vec_capacity h.asked - vec_len h.asked;
+    } };
 
     ghost invariant = { λ h.
         IsKept (record { kernel = h.kernel; asked = h.asked.items })
-        × (h.books.entries.total ≡ length h.kernel.journal) × (h.books.accepted.total ≡ h.kernel.table.accepted)
-        × (h.own.entries.parts ≡ 1) × (h.own.entries.amount ≡ 0) × (h.own.accepted.parts ≡ 1) × (h.own.accepted.amount ≡ 0) × (h.kernel.start ≡ E.opening) };
+        × (h.books.entries.total ≡ length h.kernel.journal)
+        × (h.books.accepted.total ≡ h.kernel.table.accepted)
+        × (h.own.entries.parts ≡ 1) × (h.own.entries.amount ≡ 0)
+        × (h.own.accepted.parts ≡ 1) × (h.own.accepted.amount ≡ 0)
+        × (h.kernel.start ≡ E.opening) };
 }
 
 /// What is left when the lock is gone.
@@ -110,13 +117,21 @@ impl<E: Parts, A: Parts> Held<E, A> {
     /// journal's length.
     pub fn step(&mut self, seat: &mut Seat<E, A>, event: Event) -> Answer
         ensures seat { seat.new ≡ seat_after seat.old result }
-        ensures asked { self.new.asked ≡ asked_after self.old.asked seat.old.actor event (length self.old.kernel.journal) result }
-        ensures entered { IfEntered result (λ r. IsEntered self.old.kernel seat.old.actor event r.reply self.new.kernel) }
-        ensures room { IfEntered result (λ _. length self.old.kernel.journal < self.old.kernel.table.entries) }
-        ensures receipt { IfEntered result (λ r. IsReceipt r event self.old.kernel self.new.kernel) }
-        ensures read { IfRead result (λ reply. IsQuiet self.old.kernel seat.old.actor event reply self.new.kernel) }
-        ensures refused { IfRefused result (λ why. why ≢ Refusal.NoMemory → IsRefusal self.old.kernel seat.old.actor event why) }
-        ensures memory { result ≡ Refused NoMemory → (self.old.room ≡ 0) ⊎ IsRefusal self.old.kernel seat.old.actor event NoMemory }
+        ensures asked { self.new.asked
+            ≡ asked_after self.old.asked seat.old.actor event
+            (length self.old.kernel.journal) result }
+        ensures entered { IfEntered result
+            (λ r. IsEntered self.old.kernel seat.old.actor event r.reply self.new.kernel) }
+        ensures room { IfEntered result
+            (λ _. length self.old.kernel.journal < self.old.kernel.table.entries) }
+        ensures receipt { IfEntered result
+            (λ r. IsReceipt r event self.old.kernel self.new.kernel) }
+        ensures read { IfRead result
+            (λ reply. IsQuiet self.old.kernel seat.old.actor event reply self.new.kernel) }
+        ensures refused { IfRefused result
+            (λ why. why ≢ Refusal.NoMemory → IsRefusal self.old.kernel seat.old.actor event why) }
+        ensures memory { result ≡ Refused NoMemory
+            → (self.old.room ≡ 0) ⊎ IsRefusal self.old.kernel seat.old.actor event NoMemory }
         ensures unchanged { IfRefused result (λ _. self.new.kernel ≡ self.old.kernel) }
         ensures kept { IsKept (kept_in self.new) }
     {

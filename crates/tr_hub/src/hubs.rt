@@ -61,9 +61,16 @@ impl<E: Parts, A: Parts> Hub<E, A> {
     ) -> Result<(Hub<E, A>, Vec<Seat<E, A>>), HubFault>
         requires empty { kernel.journal ≡ [] }
         requires start { kernel.start ≡ E.opening }
-        requires entries { (entries.name ≡ E.name) × (entries.parts ≡ E.parts) × (E.all ≡ E.parts) × (E.all ≡ length actors.now + 1) }
-        requires accepted { (accepted.name ≡ A.name) × (accepted.parts ≡ A.parts) × (A.all ≡ A.parts) × (A.all ≡ length actors.now + 1) }
-        ensures seats { IfOk result (λ r. (r.0 ≡ length actors.now) × (r.1.items ≡ map new_seat actors.now)) }
+        requires entries { (entries.name ≡ E.name)
+            × (entries.parts ≡ E.parts)
+            × (E.all ≡ E.parts)
+            × (E.all ≡ length actors.now + 1) }
+        requires accepted { (accepted.name ≡ A.name)
+            × (accepted.parts ≡ A.parts)
+            × (A.all ≡ A.parts)
+            × (A.all ≡ length actors.now + 1) }
+        ensures seats { IfOk result
+            (λ r. (r.0 ≡ length actors.now) × (r.1.items ≡ map new_seat actors.now)) }
         ensures repeated { HasRepeat actors.now ↔ IsErrOf result HubFault.Repeated }
     {
         if has_repeat(actors) {
@@ -113,7 +120,9 @@ impl<E: Parts, A: Parts> Hub<E, A> {
         ensures tried { HasTried turns seat.old seat.new result }
         ensures receipt { IfEntered result (λ r. (r.event ≡ event_of what) × (r.accepted ≤ 1024)) }
         ensures read { IfRead result (λ reply. reply ≡ Reply.Nothing) }
-        ensures possible { 0 < turns → IsTrue (is_kept result) → IsPossible seat.old.actor (event_of what) result }
+        ensures possible { 0 < turns
+            → IsTrue (is_kept result)
+            → IsPossible seat.old.actor (event_of what) result }
         ensures none { turns ≡ 0 → result ≡ Answer.Read Reply.Nothing }
     {
         let event = what.event();
@@ -153,8 +162,10 @@ impl<E: Parts, A: Parts> Hub<E, A> {
         requires { (E.all ≡ E.parts) × (A.all ≡ A.parts) }
         ensures kept { IfOk result (λ r. IsKept (record { kernel = r.0; asked = r.1.items })) }
         ensures start { IfOk result (λ r. r.0.start ≡ E.opening) }
-        ensures entries { IfOk result (λ r. length r.0.journal ≡ sum_by (λ s. s.entries) seats.items) }
-        ensures accepted { IfOk result (λ r. r.0.table.accepted ≡ sum_by (λ s. s.accepted) seats.items) }
+        ensures entries { IfOk result
+            (λ r. length r.0.journal ≡ sum_by (λ s. s.entries) seats.items) }
+        ensures accepted { IfOk result
+            (λ r. r.0.table.accepted ≡ sum_by (λ s. s.accepted) seats.items) }
         ensures unclosed { IfErr result (λ u. (u.hub ≡ self) × (u.seats.items ≡ seats.items)) }
         ensures exactly { IsErr result ↔ (vec_len seats < self) }
     {

@@ -22,7 +22,12 @@ impl<E: Parts, A: Parts> Model for Seat<E, A> {
 
     ghost Value = { SeatState };
 
-    ghost view = { λ s. record { actor = s.actor; calls = s.calls; entries = s.shares.entries.amount; accepted = s.shares.accepted.amount } };
+    ghost view = { λ s. record {
+      actor = s.actor;
+      calls = s.calls;
+      entries = s.shares.entries.amount;
+      accepted = s.shares.accepted.amount;
+    } };
 
     ghost invariant = { λ s. (s.shares.entries.parts ≡ 1) × (s.shares.accepted.parts ≡ 1) };
 }
@@ -31,7 +36,13 @@ impl<E: Parts, A: Parts> Seat<E, A> {
     /// A seat with one part of each ledger.
     pub(crate) fn new(actor: u32, shares: Shares<E, A>) -> Seat<E, A>
         requires { (shares.entries.parts ≡ 1) × (shares.accepted.parts ≡ 1) }
-        ensures { result ≡ record { actor = actor; calls = 0; entries = shares.entries.amount; accepted = shares.accepted.amount } }
+        ensures { result
+            ≡ record {
+              actor = actor;
+              calls = 0;
+              entries = shares.entries.amount;
+              accepted = shares.accepted.amount;
+            } }
     {
         Seat {
             actor,
@@ -57,8 +68,10 @@ impl<E: Parts, A: Parts> Seat<E, A> {
     /// Counts a call, and writes its answer down in the books and in the seat's own shares.
     pub(crate) fn add(&mut self, books: &mut Books<E, A>, answer: &Answer)
         ensures seat { self.new ≡ seat_after self.old answer.now }
-        ensures entries { books.new.entries.total ≡ books.old.entries.total + entries_in answer.now }
-        ensures accepted { books.new.accepted.total ≡ books.old.accepted.total + accepted_in answer.now }
+        ensures entries { books.new.entries.total
+            ≡ books.old.entries.total + entries_in answer.now }
+        ensures accepted { books.new.accepted.total
+            ≡ books.old.accepted.total + accepted_in answer.now }
     {
         self.calls = self.calls.saturating_add(1);
         books.add(&mut self.shares, answer);
@@ -66,9 +79,12 @@ impl<E: Parts, A: Parts> Seat<E, A> {
 
     /// Puts the seat's parts to others.
     pub(crate) fn give_up(self, shares: &mut Shares<E, A>)
-        ensures parts { (shares.new.entries.parts ≡ shares.old.entries.parts + 1) × (shares.new.accepted.parts ≡ shares.old.accepted.parts + 1) }
-        ensures amounts { (shares.new.entries.amount ≡ shares.old.entries.amount + self.entries) × (shares.new.accepted.amount ≡ shares.old.accepted.amount + self.accepted) }
-        ensures apart { (shares.new.entries.parts ≤ E.parts) × (shares.new.accepted.parts ≤ A.parts) }
+        ensures parts { (shares.new.entries.parts ≡ shares.old.entries.parts + 1)
+            × (shares.new.accepted.parts ≡ shares.old.accepted.parts + 1) }
+        ensures amounts { (shares.new.entries.amount ≡ shares.old.entries.amount + self.entries)
+            × (shares.new.accepted.amount ≡ shares.old.accepted.amount + self.accepted) }
+        ensures apart { (shares.new.entries.parts ≤ E.parts)
+            × (shares.new.accepted.parts ≤ A.parts) }
     {
         let Seat {
             actor: _,
@@ -99,11 +115,14 @@ pub(crate) fn seated<E: Parts, A: Parts>(
     actors: &[u32],
     shares: &mut Shares<E, A>,
 ) -> Result<Vec<Seat<E, A>>, AllocError>
-    requires parts { (shares.old.entries.parts ≡ length actors.now + 1) × (shares.old.accepted.parts ≡ length actors.now + 1) }
+    requires parts { (shares.old.entries.parts ≡ length actors.now + 1)
+        × (shares.old.accepted.parts ≡ length actors.now + 1) }
     requires amounts { (shares.old.entries.amount ≡ 0) × (shares.old.accepted.amount ≡ 0) }
     ensures seats { IfOk result (λ seats. seats.items ≡ map new_seat actors.now) }
-    ensures parts { IfOk result (λ _. (shares.new.entries.parts ≡ 1) × (shares.new.accepted.parts ≡ 1)) }
-    ensures amounts { IfOk result (λ _. (shares.new.entries.amount ≡ 0) × (shares.new.accepted.amount ≡ 0)) }
+    ensures parts { IfOk result
+        (λ _. (shares.new.entries.parts ≡ 1) × (shares.new.accepted.parts ≡ 1)) }
+    ensures amounts { IfOk result
+        (λ _. (shares.new.entries.amount ≡ 0) × (shares.new.accepted.amount ≡ 0)) }
 {
     let mut seats = Vec::new(alloc);
     for actor in actors {
@@ -119,7 +138,8 @@ pub(crate) fn gathered<E: Parts, A: Parts>(
 ) -> Shares<E, A>
     requires parts { (shares.entries.parts ≡ 1) × (shares.accepted.parts ≡ 1) }
     requires amounts { (shares.entries.amount ≡ 0) × (shares.accepted.amount ≡ 0) }
-    ensures parts { (result.entries.parts ≡ vec_len seats + 1) × (result.accepted.parts ≡ vec_len seats + 1) }
+    ensures parts { (result.entries.parts ≡ vec_len seats + 1)
+        × (result.accepted.parts ≡ vec_len seats + 1) }
     ensures entries { result.entries.amount ≡ sum_by (λ s. s.entries) seats.items }
     ensures accepted { result.accepted.amount ≡ sum_by (λ s. s.accepted) seats.items }
     ensures apart { (result.entries.parts ≤ E.parts) × (result.accepted.parts ≤ A.parts) }

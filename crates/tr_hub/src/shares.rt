@@ -36,8 +36,10 @@ impl<E: Parts, A: Parts> Shares<E, A> {
         requires { (1 < self.old.entries.parts) × (1 < self.old.accepted.parts) }
         ensures parts { (result.entries.parts ≡ 1) × (result.accepted.parts ≡ 1) }
         ensures amounts { (result.entries.amount ≡ 0) × (result.accepted.amount ≡ 0) }
-        ensures parts_left { (self.new.entries.parts + 1 ≡ self.old.entries.parts) × (self.new.accepted.parts + 1 ≡ self.old.accepted.parts) }
-        ensures amounts_left { (self.new.entries.amount ≡ self.old.entries.amount) × (self.new.accepted.amount ≡ self.old.accepted.amount) }
+        ensures parts_left { (self.new.entries.parts + 1 ≡ self.old.entries.parts)
+            × (self.new.accepted.parts + 1 ≡ self.old.accepted.parts) }
+        ensures amounts_left { (self.new.entries.amount ≡ self.old.entries.amount)
+            × (self.new.accepted.amount ≡ self.old.accepted.amount) }
     {
         Shares {
             entries: self.entries.split_off(1, 0),
@@ -59,8 +61,10 @@ impl<E: Parts, A: Parts> Shares<E, A> {
 
     /// Puts other parts to these.
     pub(crate) fn merge(&mut self, other: Shares<E, A>)
-        ensures parts { (self.new.entries.parts ≡ self.old.entries.parts + other.entries.parts) × (self.new.accepted.parts ≡ self.old.accepted.parts + other.accepted.parts) }
-        ensures amounts { (self.new.entries.amount ≡ self.old.entries.amount + other.entries.amount) × (self.new.accepted.amount ≡ self.old.accepted.amount + other.accepted.amount) }
+        ensures parts { (self.new.entries.parts ≡ self.old.entries.parts + other.entries.parts)
+            × (self.new.accepted.parts ≡ self.old.accepted.parts + other.accepted.parts) }
+        ensures amounts { (self.new.entries.amount ≡ self.old.entries.amount + other.entries.amount)
+            × (self.new.accepted.amount ≡ self.old.accepted.amount + other.accepted.amount) }
         ensures apart { (self.new.entries.parts ≤ E.parts) × (self.new.accepted.parts ≤ A.parts) }
     {
         let Shares { entries, accepted } = other;
@@ -97,9 +101,13 @@ impl<E: Parts, A: Parts> Books<E, A> {
     /// Adds what an answer tells of to the totals and to the shares of the one who was answered.
     pub(crate) fn add(&mut self, shares: &mut Shares<E, A>, answer: &Answer)
         requires { (0 < shares.old.entries.parts) × (0 < shares.old.accepted.parts) }
-        ensures totals { (self.new.entries.total ≡ self.old.entries.total + entries_in answer.now) × (self.new.accepted.total ≡ self.old.accepted.total + accepted_in answer.now) }
-        ensures amounts { (shares.new.entries.amount ≡ shares.old.entries.amount + entries_in answer.now) × (shares.new.accepted.amount ≡ shares.old.accepted.amount + accepted_in answer.now) }
-        ensures parts { (shares.new.entries.parts ≡ shares.old.entries.parts) × (shares.new.accepted.parts ≡ shares.old.accepted.parts) }
+        ensures totals { (self.new.entries.total ≡ self.old.entries.total + entries_in answer.now)
+            × (self.new.accepted.total ≡ self.old.accepted.total + accepted_in answer.now) }
+        ensures amounts { (shares.new.entries.amount
+            ≡ shares.old.entries.amount + entries_in answer.now)
+            × (shares.new.accepted.amount ≡ shares.old.accepted.amount + accepted_in answer.now) }
+        ensures parts { (shares.new.entries.parts ≡ shares.old.entries.parts)
+            × (shares.new.accepted.parts ≡ shares.old.accepted.parts) }
     {
         if let Answer::Entered(receipt) = answer {
             self.entries.add(&mut shares.entries, 1);
@@ -109,8 +117,10 @@ impl<E: Parts, A: Parts> Books<E, A> {
 
     /// Shows that the shares have the totals, if they have all parts.
     pub(crate) fn audit(&mut self, shares: &mut Shares<E, A>)
-        ensures entries { shares.old.entries.parts ≡ E.parts → shares.old.entries.amount ≡ self.old.entries.total }
-        ensures accepted { shares.old.accepted.parts ≡ A.parts → shares.old.accepted.amount ≡ self.old.accepted.total }
+        ensures entries { shares.old.entries.parts ≡ E.parts
+            → shares.old.entries.amount ≡ self.old.entries.total }
+        ensures accepted { shares.old.accepted.parts ≡ A.parts
+            → shares.old.accepted.amount ≡ self.old.accepted.total }
     {
         self.entries.audit(&mut shares.entries);
         self.accepted.audit(&mut shares.accepted);

@@ -93,8 +93,14 @@ fn at<E: Parts + Send + Sync, A: Parts + Send + Sync, R: Threads + Wait + Abort 
 ) -> Result<(), Fail>
     requires empty { kernel.journal ≡ [] }
     requires start { kernel.start ≡ E.opening }
-    requires entries { (entries.name ≡ E.name) × (entries.parts ≡ E.parts) × (E.all ≡ E.parts) × (E.all ≡ length actors.now + 1) }
-    requires accepted { (accepted.name ≡ A.name) × (accepted.parts ≡ A.parts) × (A.all ≡ A.parts) × (A.all ≡ length actors.now + 1) }
+    requires entries { (entries.name ≡ E.name)
+        × (entries.parts ≡ E.parts)
+        × (E.all ≡ E.parts)
+        × (E.all ≡ length actors.now + 1) }
+    requires accepted { (accepted.name ≡ A.name)
+        × (accepted.parts ≡ A.parts)
+        × (A.all ≡ A.parts)
+        × (A.all ≡ length actors.now + 1) }
 {
     let hub = Hub::<E, A>::new(alloc, entries, accepted, kernel, actors);
     let (hub, seats) = match hub {

@@ -61,15 +61,29 @@ pub(crate) fn write_entry(
     requires few_passes { (id : ℕ) → times id notes.old.transfers.items < 2 ^ 32 }
     requires few_notes { length notes.old.list.notes < 2 ^ 32 }
     requires counted { length fates.old.fates ≡ step.old.work.table.accepted }
-    requires bounded { AcceptsFew step.old.work.table (after step.old.work.table (entry_with actor event.now choice)).work.table }
-    ensures table { OnOk result (step.new.work.table ≡ (after step.old.work.table (entry_with actor event.now choice)).work.table) }
-    ensures reply { IfOk result (λ r. r ≡ (after step.old.work.table (entry_with actor event.now choice)).reply) }
-    ensures journal { OnOk result (journal.new.entries ≡ journal.old.entries ++ entry_with actor event.now choice ∷ []) }
+    requires bounded { AcceptsFew step.old.work.table
+        (after step.old.work.table (entry_with actor event.now choice)).work.table }
+    ensures table { OnOk result (step.new.work.table
+        ≡ (after step.old.work.table (entry_with actor event.now choice)).work.table) }
+    ensures reply { IfOk result
+        (λ r. r ≡ (after step.old.work.table (entry_with actor event.now choice)).reply) }
+    ensures journal { OnOk result
+        (journal.new.entries ≡ journal.old.entries ++ entry_with actor event.now choice ∷ []) }
     ensures replies { IfOk result (λ r. journal.new.replies ≡ journal.old.replies ++ r ∷ []) }
-    ensures fates { OnOk result (fates.new.fates ≡ fates_after fates.old.fates (after step.old.work.table (entry_with actor event.now choice)).work) }
-    ensures notes { OnOk result (notes.new.list.notes ≡ notes.old.list.notes ++ noted notes.old.transfers.items (length notes.old.dying.items) step.old.work.table (entry_with actor event.now choice) ∷ []) }
-    ensures dying { OnOk result (notes.new.dying.items ≡ notes.old.dying.items ++ (work_of step.old.work.table (entry_with actor event.now choice)).dying) }
-    ensures transfers { OnOk result (AreTransferred (work_of step.old.work.table (entry_with actor event.now choice)).renamed notes.old.transfers.items notes.new.transfers.items) }
+    ensures fates { OnOk result (fates.new.fates
+        ≡ fates_after fates.old.fates
+        (after step.old.work.table (entry_with actor event.now choice)).work) }
+    ensures notes { OnOk result (notes.new.list.notes
+        ≡ notes.old.list.notes
+        ++ noted notes.old.transfers.items (length notes.old.dying.items) step.old.work.table
+        (entry_with actor event.now choice) ∷ []) }
+    ensures dying { OnOk result (notes.new.dying.items
+        ≡ notes.old.dying.items
+        ++ (work_of step.old.work.table (entry_with actor event.now choice)).dying) }
+    ensures transfers { OnOk result
+        (AreTransferred
+        (work_of step.old.work.table
+        (entry_with actor event.now choice)).renamed notes.old.transfers.items notes.new.transfers.items) }
     ensures err_table { OnErr result (step.new.work.table ≡ step.old.work.table) }
     ensures err_journal { OnErr result (journal.new.entries ≡ journal.old.entries) }
     ensures err_replies { OnErr result (journal.new.replies ≡ journal.old.replies) }

@@ -69,7 +69,9 @@ pub(crate) fn change(
 ) -> Result<Reply, AllocError>
     requires due { Permits step.old.work.table actor event.now choice }
     requires fixed { IsFixed step.old.work.table actor event.now choice }
-    ensures did { IfOk result (IsStepOf step.old.work.table (record { actor = actor; event = event.now; choice = choice }) step.new) }
+    ensures did { IfOk result
+        (IsStepOf step.old.work.table
+        (record { actor = actor; event = event.now; choice = choice }) step.new) }
     ensures err { OnErr result (step.new.work.table ≡ step.old.work.table) }
 {
     match event {

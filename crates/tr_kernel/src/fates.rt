@@ -22,7 +22,10 @@ impl Model for Fates {
 
     ghost Value = { FateList };
 
-    ghost view = { λ f. record { fates = f.list.items; room = vec_capacity f.list - vec_len f.list } };
+    ghost view = { λ f. record {
+      fates = f.list.items;
+      room = vec_capacity f.list - vec_len f.list;
+    } };
 
     ghost invariant = { λ f. f.totals ≡ tally f.list.items (length f.list.items) };
 }

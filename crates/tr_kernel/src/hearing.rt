@@ -102,7 +102,9 @@ fn is_sent(table: &Table, fate: Fate, told: &Reply) -> bool
 fn is_sent_to(step: &Step, sig: u8, target: Target, told: &Reply) -> bool
     requires least { 1 ≤ sig }
     requires greatest { sig ≤ 64 }
-    ensures { IsTrue result ↔ (sent_before step.now.work.table (fate_of_send step.now.work.table sig target) ≡ told.now) }
+    ensures { IsTrue result
+        ↔ (sent_before step.now.work.table
+        (fate_of_send step.now.work.table sig target) ≡ told.now) }
 {
     let signal = Signal::new(sig).unwrap();
     is_sent(step.table(), step.fate_of_send(signal, target), told)
@@ -110,7 +112,9 @@ fn is_sent_to(step: &Step, sig: u8, target: Target, told: &Reply) -> bool
 
 /// Whether the reply is that of an attach to a thread.
 fn is_attached(step: &Step, tid: u32, told: &Reply) -> bool
-    ensures { IsTrue result ↔ (sent_before step.now.work.table (fate_of_put step.now.work.table 19 (target.Thread tid)) ≡ told.now) }
+    ensures { IsTrue result
+        ↔ (sent_before step.now.work.table
+        (fate_of_put step.now.work.table 19 (target.Thread tid)) ≡ told.now) }
 {
     is_sent(
         step.table(),

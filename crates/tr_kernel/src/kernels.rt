@@ -70,9 +70,24 @@ impl Model for Kernel {
 
     ghost Value = { State };
 
-    ghost view = { λ k. record { start = k.start; table = k.step.work.table; journal = k.journal.entries; replies = k.journal.replies; fates = k.fates.fates } };
+    ghost view = { λ k. record {
+      start = k.start;
+      table = k.step.work.table;
+      journal = k.journal.entries;
+      replies = k.journal.replies;
+      fates = k.fates.fates;
+    } };
 
-    ghost invariant = { λ k. IsHistory (record { start = k.start; table = k.step.work.table; journal = k.journal.entries; replies = k.journal.replies; fates = k.fates.fates }) × IsNoted (table_of k.start) k.journal.entries k.notes.list.notes k.notes.dying.items k.notes.transfers.items };
+    ghost invariant = { λ k.
+        IsHistory (record {
+          start = k.start;
+          table = k.step.work.table;
+          journal = k.journal.entries;
+          replies = k.journal.replies;
+          fates = k.fates.fates;
+        })
+        × IsNoted (table_of k.start) k.journal.entries
+        k.notes.list.notes k.notes.dying.items k.notes.transfers.items };
 }
 
 impl Kernel {
@@ -134,9 +149,14 @@ impl Kernel {
     /// What has become of the accepted signal of a number, from 1 up: its one fate. None for 0 and for numbers not accepted
     /// so far.
     pub fn fate(&self, number: u64) -> Option<Fate>
-        ensures fate { result ≡ fate_of (table_of self.now.start) self.now.journal self.now.table number }
-        ensures has { IfSome result (λ f. HasFate (ended_by (table_of self.now.start) self.now.journal) self.now.table number f) }
-        ensures only { IfSome result (λ f. (g : Fate) → HasFate (ended_by (table_of self.now.start) self.now.journal) self.now.table number g → g ≡ f) }
+        ensures fate { result
+            ≡ fate_of (table_of self.now.start) self.now.journal self.now.table number }
+        ensures has { IfSome result
+            (λ f. HasFate
+            (ended_by (table_of self.now.start) self.now.journal) self.now.table number f) }
+        ensures only { IfSome result (λ f. (g : Fate)
+            → HasFate (ended_by (table_of self.now.start) self.now.journal) self.now.table number g
+            → g ≡ f) }
     {
         self.fates.at(number)
     }
@@ -144,7 +164,9 @@ impl Kernel {
     /// How many signals were accepted, and how many have each fate.
     pub fn totals(&self) -> Totals
         ensures totals { result ≡ totals (table_of self.now.start) self.now.journal self.now.table }
-        ensures sum { result.pending + result.merged + result.delivered + result.suppressed + result.flushed ≡ result.accepted }
+        ensures sum { result.pending + result.merged + result.delivered + result.suppressed
+            + result.flushed
+            ≡ result.accepted }
     {
         self.fates.totals()
     }
@@ -155,15 +177,18 @@ impl Kernel {
     pub fn consumed_at(&self, position: u64) -> Option<u64>
         ensures report { result ≡ consumed_at self.now.journal position }
         ensures exactly { IsSome result ↔ WaitsAt self.now.journal position }
-        ensures raised { IfSome result (λ r. RaisedBefore (table_of self.now.start) self.now.journal position r) }
-        ensures once { IfSome result (λ r. (p : ℕ) → p ≢ position → consumed_at self.now.journal p ≢ Some r) }
+        ensures raised { IfSome result
+            (λ r. RaisedBefore (table_of self.now.start) self.now.journal position r) }
+        ensures once { IfSome result
+            (λ r. (p : ℕ) → p ≢ position → consumed_at self.now.journal p ≢ Some r) }
     {
         report_of(&self.journal.entry_at(position))
     }
 
     /// What the entry at a position is to the laws.
     pub(crate) fn fact_at(&self, position: u64) -> EntryFact
-        ensures fact { result ≡ fact_at (notes_of (table_of self.now.start) self.now.journal) position }
+        ensures fact { result
+            ≡ fact_at (notes_of (table_of self.now.start) self.now.journal) position }
         ensures history { IsHistory self.now }
     {
         fact_in(&self.notes.list.at(position))
@@ -171,7 +196,8 @@ impl Kernel {
 
     /// Whether the entry at a position delivers a KILL.
     pub(crate) fn kills_at(&self, position: u64) -> bool
-        ensures { IsTrue result ↔ ((g : ℕ) × KillsAt (table_of self.now.start) self.now.journal position g) }
+        ensures { IsTrue result
+            ↔ ((g : ℕ) × KillsAt (table_of self.now.start) self.now.journal position g) }
     {
         is_killed(&self.notes.list.at(position))
     }
@@ -180,8 +206,12 @@ impl Kernel {
     /// thread or begins the death of its group.
     pub(crate) fn first_restart(&self, stop: &Stopped, i: u64, j: u64) -> Option<u64>
         requires { (1 ≤ i) × (i < j) × (j ≤ length self.now.journal) }
-        ensures found { IfSome result (λ k. IsRestartAt (table_of self.now.start) self.now.journal i j stop.now k) }
-        ensures none { result ≡ None → (k : ℕ) → IsRestartAt (table_of self.now.start) self.now.journal i j stop.now k → ⊥ }
+        ensures found { IfSome result
+            (λ k. IsRestartAt (table_of self.now.start) self.now.journal i j stop.now k) }
+        ensures none { result ≡ None
+            → (k : ℕ)
+            → IsRestartAt (table_of self.now.start) self.now.journal i j stop.now k
+            → ⊥ }
     {
         let tracer = self.journal.entry(i as usize - 1).actor;
         let place = first_restart(
@@ -210,8 +240,12 @@ impl Kernel {
         ensures read { IfRead result (λ reply. IsQuiet self.old actor event reply self.new) }
         ensures refused { IfRefused result (λ why. IsRefusal self.old actor event why) }
         ensures unchanged { IfRefused result (λ _. self.new ≡ self.old) }
-        ensures cause { (why : Refusal) → cause_of self.old.table actor event ≡ Some why → result ≡ Refused why }
-        ensures full { IsDue self.old actor event → self.old.table.entries ≤ length self.old.journal → result ≡ Refused Refusal.JournalFull }
+        ensures cause { (why : Refusal)
+            → cause_of self.old.table actor event ≡ Some why
+            → result ≡ Refused why }
+        ensures full { IsDue self.old actor event
+            → self.old.table.entries ≤ length self.old.journal
+            → result ≡ Refused Refusal.JournalFull }
         ensures history { IsHistory self.new }
     {
         let checked = match check(self.step.table(), actor, &event) {
@@ -229,11 +263,16 @@ impl Kernel {
 
     /// Makes one call of an actor, as `call`, and gives its reply or its refusal alone.
     pub fn step(&mut self, actor: u32, event: Event) -> Result<Reply, Refusal>
-        ensures ok { IfOk result (λ reply. IsQuiet self.old actor event reply self.new ⊎ IsEntered self.old actor event reply self.new) }
+        ensures ok { IfOk result (λ reply. IsQuiet self.old actor event reply self.new
+            ⊎ IsEntered self.old actor event reply self.new) }
         ensures err { IfErr result (λ why. IsRefusal self.old actor event why) }
         ensures unchanged { OnErr result (self.new ≡ self.old) }
-        ensures cause { (why : Refusal) → cause_of self.old.table actor event ≡ Some why → result ≡ Err why }
-        ensures full { IsDue self.old actor event → self.old.table.entries ≤ length self.old.journal → result ≡ Err Refusal.JournalFull }
+        ensures cause { (why : Refusal)
+            → cause_of self.old.table actor event ≡ Some why
+            → result ≡ Err why }
+        ensures full { IsDue self.old actor event
+            → self.old.table.entries ≤ length self.old.journal
+            → result ≡ Err Refusal.JournalFull }
         ensures bounded { AcceptsFew self.old.table self.new.table }
         ensures history { IsHistory self.new }
     {
@@ -256,7 +295,10 @@ impl Kernel {
         told: &Result<Reply, Refusal>,
     ) -> Result<bool, Refusal>
         ensures heard { IsHeard self.old actor event told.now result self.new }
-        ensures full { IsDue self.old actor event → IsLet self.old.table (call_of actor event) told.now → self.old.table.entries ≤ length self.old.journal → result ≡ Err Refusal.JournalFull }
+        ensures full { IsDue self.old actor event
+            → IsLet self.old.table (call_of actor event) told.now
+            → self.old.table.entries ≤ length self.old.journal
+            → result ≡ Err Refusal.JournalFull }
         ensures bounded { AcceptsFew self.old.table self.new.table }
         ensures history { IsHistory self.new }
     {
@@ -277,7 +319,9 @@ impl Kernel {
     fn hear_reply(&mut self, actor: u32, event: &Event, told: &Reply) -> Result<bool, Refusal>
         requires due { IsDue self.old actor event.now }
         ensures heard { IsHeard self.old actor event.now (Ok told.now) result self.new }
-        ensures full { IsLet self.old.table (call_of actor event.now) (Ok told.now) → self.old.table.entries ≤ length self.old.journal → result ≡ Err Refusal.JournalFull }
+        ensures full { IsLet self.old.table (call_of actor event.now) (Ok told.now)
+            → self.old.table.entries ≤ length self.old.journal
+            → result ≡ Err Refusal.JournalFull }
         ensures bounded { AcceptsFew self.old.table self.new.table }
         ensures history { IsHistory self.new }
     {
@@ -296,11 +340,14 @@ impl Kernel {
     /// full. After a refusal nothing has changed.
     pub fn step_as(&mut self, actor: u32, event: &Event, choice: Choice) -> Result<Reply, Refusal>
         requires due { Permits self.old.table actor event.now choice }
-        ensures ok { IfOk result (λ reply. IsMade self.old (record { actor = actor; event = event.now; choice = choice }) reply self.new) }
+        ensures ok { IfOk result
+            (λ reply. IsMade self.old
+            (record { actor = actor; event = event.now; choice = choice }) reply self.new) }
         ensures room { OnOk result (length self.old.journal < self.old.table.entries) }
         ensures err { IfErr result (λ why. IsWithheld self.old why) }
         ensures unchanged { OnErr result (self.new ≡ self.old) }
-        ensures full { self.old.table.entries ≤ length self.old.journal → result ≡ Err Refusal.JournalFull }
+        ensures full { self.old.table.entries ≤ length self.old.journal
+            → result ≡ Err Refusal.JournalFull }
         ensures bounded { AcceptsFew self.old.table self.new.table }
         ensures history { IsHistory self.new }
     {
@@ -325,7 +372,8 @@ impl Kernel {
         ensures room { OnOk result (length self.old.journal < self.old.table.entries) }
         ensures err { IfErr result (λ why. IsWithheld self.old why) }
         ensures unchanged { OnErr result (self.new ≡ self.old) }
-        ensures full { self.old.table.entries ≤ length self.old.journal → result ≡ Err Refusal.JournalFull }
+        ensures full { self.old.table.entries ≤ length self.old.journal
+            → result ≡ Err Refusal.JournalFull }
         ensures history { IsHistory self.new }
     {
         let accepted = self.table().accepted();
@@ -342,7 +390,9 @@ impl Kernel {
     fn enter(&mut self, actor: u32, event: &Event, choice: Choice) -> Result<Reply, Refusal>
         requires few { length self.old.journal < 2 ^ 32 }
         requires due { Permits self.old.table actor event.now choice }
-        ensures ok { IfOk result (λ reply. IsMade self.old (record { actor = actor; event = event.now; choice = choice }) reply self.new) }
+        ensures ok { IfOk result
+            (λ reply. IsMade self.old
+            (record { actor = actor; event = event.now; choice = choice }) reply self.new) }
         ensures err { IfErr result (λ why. why ≡ Refusal.NoMemory) }
         ensures unchanged { OnErr result (self.new ≡ self.old) }
         ensures bounded { AcceptsFew self.old.table self.new.table }

@@ -13,8 +13,10 @@ use crate::notes::{EntryFact, TakenFrom};
 /// One wait for each report: whether these are two different entries that are waits, of tracers or the starter. Then
 /// they consumed different reports.
 pub fn consumed_differ(kernel: &Kernel, i: u64, j: u64) -> bool
-    ensures exactly { IsTrue result ↔ ((i ≢ j) × WaitsAt kernel.now.journal i × WaitsAt kernel.now.journal j) }
-    ensures differ { IsTrue result → consumed_at kernel.now.journal i ≢ consumed_at kernel.now.journal j }
+    ensures exactly { IsTrue result
+        ↔ ((i ≢ j) × WaitsAt kernel.now.journal i × WaitsAt kernel.now.journal j) }
+    ensures differ { IsTrue result
+        → consumed_at kernel.now.journal i ≢ consumed_at kernel.now.journal j }
 {
     i != j && kernel.consumed_at(i).is_some() && kernel.consumed_at(j).is_some()
 }
@@ -27,7 +29,8 @@ pub fn consumed_differ(kernel: &Kernel, i: u64, j: u64) -> bool
 /// It looks at the entries between the two alone.
 pub fn restart_between(kernel: &Kernel, i: u64, j: u64) -> Option<u64>
     ensures exactly { IsSome result ↔ TwoStops (table_of kernel.now.start) kernel.now.journal i j }
-    ensures between { IfSome result (λ k. RestartBetween (table_of kernel.now.start) kernel.now.journal i j k) }
+    ensures between { IfSome result
+        (λ k. RestartBetween (table_of kernel.now.start) kernel.now.journal i j k) }
 {
     let EntryFact::Stop(first) = kernel.fact_at(i) else {
         return None;
@@ -65,7 +68,8 @@ fn is_same_queue(first: &TakenFrom, second: &TakenFrom) -> bool
 /// has the lesser number.
 pub fn in_order(kernel: &Kernel, i: u64, j: u64) -> bool
     ensures exactly { IsTrue result ↔ TwoTakes (table_of kernel.now.start) kernel.now.journal i j }
-    ensures order { IsTrue result → TakenInOrder (table_of kernel.now.start) kernel.now.journal i j }
+    ensures order { IsTrue result
+        → TakenInOrder (table_of kernel.now.start) kernel.now.journal i j }
 {
     let EntryFact::Take(first) = kernel.fact_at(i) else {
         return false;

@@ -25,7 +25,10 @@ impl Model for NoteList {
 
     ghost Value = { NotesOfEntries };
 
-    ghost view = { λ l. record { notes = spread l.kept.items 0 0 l.len; room = vec_capacity l.kept - vec_len l.kept } };
+    ghost view = { λ l. record {
+      notes = spread l.kept.items 0 0 l.len;
+      room = vec_capacity l.kept - vec_len l.kept;
+    } };
 
     ghost invariant = { λ l. AreWithin 0 l.len l.kept.items };
 }

@@ -252,7 +252,9 @@ pub(crate) fn is_killed(note: &Option<Note>) -> bool
 
 impl Notes {
     pub(crate) fn new(alloc: Global) -> Notes
-        ensures { (result.list.notes ≡ []) × (result.dying.items ≡ []) × (result.transfers.items ≡ []) }
+        ensures { (result.list.notes ≡ [])
+            × (result.dying.items ≡ [])
+            × (result.transfers.items ≡ []) }
     {
         Notes {
             list: NoteList::new(alloc),
@@ -268,8 +270,10 @@ impl Notes {
         ensures dying { self.new.dying.items ≡ self.old.dying.items }
         ensures transfers { self.new.transfers.items ≡ self.old.transfers.items }
         ensures note_room { OnOk result (0 < self.new.list.room) }
-        ensures dying_room { OnOk result (vec_len self.new.dying + deaths ≤ vec_capacity self.new.dying) }
-        ensures transfer_room { OnOk result (vec_len self.new.transfers < vec_capacity self.new.transfers) }
+        ensures dying_room { OnOk result
+            (vec_len self.new.dying + deaths ≤ vec_capacity self.new.dying) }
+        ensures transfer_room { OnOk result
+            (vec_len self.new.transfers < vec_capacity self.new.transfers) }
     {
         self.list.reserve_one()?;
         self.dying.reserve(deaths)?;
@@ -279,13 +283,18 @@ impl Notes {
     /// Notes an entry, for which there is room: what it was before the step, and what the step made.
     pub(crate) fn note(&mut self, fact: EntryFact, step: &Step, reply: &Reply)
         requires list { (0 < self.old.list.room) × (length self.old.list.notes < 2 ^ 32) }
-        requires dying { vec_len self.old.dying + length step.now.work.dying ≤ vec_capacity self.old.dying }
+        requires dying { vec_len self.old.dying + length step.now.work.dying
+            ≤ vec_capacity self.old.dying }
         requires transfers { vec_len self.old.transfers < vec_capacity self.old.transfers }
         requires few { (n : ℕ) → times n self.old.transfers.items < 2 ^ 32 }
         requires one { length step.now.work.renamed ≤ 1 }
-        ensures list { self.new.list.notes ≡ self.old.list.notes ++ note_with (fact_after fact step.now.taken_from self.old.transfers.items reply.now) (length self.old.dying.items) step.now.work ∷ [] }
+        ensures list { self.new.list.notes
+            ≡ self.old.list.notes
+            ++ note_with (fact_after fact step.now.taken_from self.old.transfers.items reply.now)
+            (length self.old.dying.items) step.now.work ∷ [] }
         ensures dying { self.new.dying.items ≡ self.old.dying.items ++ step.now.work.dying }
-        ensures transfers { AreTransferred step.now.work.renamed self.old.transfers.items self.new.transfers.items }
+        ensures transfers { AreTransferred step.now.work.renamed
+            self.old.transfers.items self.new.transfers.items }
     {
         let fact = fact_after(fact, reply, step.taken_from(), &self.transfers);
         append_all(&mut self.dying, step.dying());

@@ -96,8 +96,14 @@ pub(crate) fn first_restart(
     requires to { to ≤ length journal.now }
     requires notes { length notes.now.notes ≡ length journal.now }
     requires ordered { AreOrdered notes.now.notes (length dying.now) }
-    ensures found { IfSome result (λ p. (from ≤ p) × (p < to) × (restarts_at stop.now tracer journal.now notes.now.notes dying.now p ≡ true)) }
-    ensures none { result ≡ None → (p : ℕ) → from ≤ p → p < to → restarts_at stop.now tracer journal.now notes.now.notes dying.now p ≡ false }
+    ensures found { IfSome result (λ p. (from ≤ p)
+        × (p < to)
+        × (restarts_at stop.now tracer journal.now notes.now.notes dying.now p ≡ true)) }
+    ensures none { result ≡ None
+        → (p : ℕ)
+        → from ≤ p
+        → p < to
+        → restarts_at stop.now tracer journal.now notes.now.notes dying.now p ≡ false }
 {
     for place in from..to {
         if restarts_at(stop, tracer, journal, notes, dying, place) {

@@ -32,7 +32,11 @@ impl Model for Choice {
 
     ghost invariant = { λ c. IsPacked c.kind c.number c.id };
 
-    ghost inverse = { λ c. record { number = packed_number c; id = packed_id c; kind = packed_kind c } };
+    ghost inverse = { λ c. record {
+      number = packed_number c;
+      id = packed_id c;
+      kind = packed_kind c;
+    } };
 }
 
 impl Choice {

@@ -32,7 +32,10 @@ impl Model for Queue {
 
     ghost Value = { QueueView };
 
-    ghost view = { λ q. record { waiting = q.items.items; room = vec_capacity q.items - vec_len q.items } };
+    ghost view = { λ q. record {
+      waiting = q.items.items;
+      room = vec_capacity q.items - vec_len q.items;
+    } };
 
     ghost invariant = { λ q. IsMask q.mask q.items.items };
 }
@@ -77,10 +80,12 @@ impl Queue {
     /// Puts an instance last, unless its signal is a standard one that already waits.
     pub fn put(&mut self, instance: Instance) -> Put
         requires { 0 < self.old.room }
-        ensures answer { result ≡ (if merges instance.sig self.old.waiting then Put.Merged else Put.Queued) }
+        ensures answer { result
+            ≡ (if merges instance.sig self.old.waiting then Put.Merged else Put.Queued) }
         ensures waiting { self.new.waiting ≡ after_put instance self.old.waiting }
         ensures room { self.old.room ≤ self.new.room + 1 }
-        ensures merged { IsTrue (merges instance.sig self.old.waiting) → self.new.room ≡ self.old.room }
+        ensures merged { IsTrue (merges instance.sig self.old.waiting)
+            → self.new.room ≡ self.old.room }
     {
         let signal = instance.sig;
         if !signal.is_real_time() && self.mask.has(signal) {
@@ -124,7 +129,8 @@ impl Queue {
     pub fn flush(&mut self, set: SigSet, gone: &mut Vec<u64>) -> u64
         requires { vec_len gone.old + length self.old.waiting ≤ vec_capacity gone.old }
         ensures count { result ≡ length (flushed_by set self.old.waiting) }
-        ensures named { gone.new.items ≡ gone.old.items ++ map (λ i. i.n) (flushed_by set self.old.waiting) }
+        ensures named { gone.new.items
+            ≡ gone.old.items ++ map (λ i. i.n) (flushed_by set self.old.waiting) }
         ensures waiting { self.new.waiting ≡ kept_by set self.old.waiting }
         ensures room { self.old.room ≤ self.new.room }
         ensures capacity { vec_capacity gone.new ≡ vec_capacity gone.old }

@@ -78,7 +78,8 @@ fn clone_stop(step: &mut Step, thread: &Thread, id: u32)
 
 fn clone_stop_where(step: &mut Step, thread: &Thread, id: u32)
     requires { 2 ≤ step.old.room }
-    ensures { Moves (when (options_of thread.now.trace).clone (clone_stop thread.now id)) 2 step.old step.new }
+    ensures { Moves (when (options_of thread.now.trace).clone
+        (clone_stop thread.now id)) 2 step.old step.new }
 {
     if thread.options().clone {
         clone_stop(step, thread, id);
@@ -90,7 +91,9 @@ fn clone_stop_where(step: &mut Step, thread: &Thread, id: u32)
 /// numbers are used up, nothing has changed.
 pub fn clone_thread(step: &mut Step, actor: u32, tid: u32, id: u32) -> Result<Reply, AllocError>
     requires due { Permits step.old.work.table actor (CloneThread tid) (gives_id id) }
-    ensures did { IfOk result (IsStepOf step.old.work.table (record { actor = actor; event = CloneThread tid; choice = gives_id id }) step.new) }
+    ensures did { IfOk result
+        (IsStepOf step.old.work.table
+        (record { actor = actor; event = CloneThread tid; choice = gives_id id }) step.new) }
     ensures err { OnErr result (step.new.work.table ≡ step.old.work.table) }
 {
     let thread = *step.table().find(tid).unwrap();

@@ -76,7 +76,8 @@ pub fn check_exit(table: &Table, tid: u32, code: u32) -> Result<Checked, Refusal
 /// used up, nothing has changed.
 pub fn exit(step: &mut Step, actor: u32, tid: u32, code: u32) -> Result<Reply, AllocError>
     requires due { check step.old.work.table actor (Exit tid code) ≡ Ok (Due no_choice) }
-    ensures did { IfOk result (IsStepOf step.old.work.table (entry actor (Exit tid code)) step.new) }
+    ensures did { IfOk result
+        (IsStepOf step.old.work.table (entry actor (Exit tid code)) step.new) }
     ensures err { OnErr result (step.new.work.table ≡ step.old.work.table) }
 {
     step.begin(1)?;
@@ -107,7 +108,8 @@ pub fn check_exit_group(table: &Table, tid: u32, code: u32) -> Result<Checked, R
 /// numbers are used up, nothing has changed.
 pub fn exit_group(step: &mut Step, actor: u32, tid: u32, code: u32) -> Result<Reply, AllocError>
     requires due { check step.old.work.table actor (ExitGroup tid code) ≡ Ok (Due no_choice) }
-    ensures did { IfOk result (IsStepOf step.old.work.table (entry actor (ExitGroup tid code)) step.new) }
+    ensures did { IfOk result
+        (IsStepOf step.old.work.table (entry actor (ExitGroup tid code)) step.new) }
     ensures err { OnErr result (step.new.work.table ≡ step.old.work.table) }
 {
     step.begin(1)?;
@@ -137,7 +139,8 @@ fn end_of_dead(life: &Life) -> End
 
 fn report_end(step: &mut Step, thread: &Thread, end: &End)
     requires { 1 ≤ step.old.room }
-    ensures { Moves (λ w. report_death thread.now.id (reported_end w.table thread.now end.now) w) 1 step.old step.new }
+    ensures { Moves (λ w. report_death thread.now.id
+        (reported_end w.table thread.now end.now) w) 1 step.old step.new }
 {
     let told = reported_end(step.table(), thread, end);
     step.report_death(thread.id, &told);
@@ -204,7 +207,8 @@ fn die_and_flush(step: &mut Step, thread: &Thread)
 
 fn die_told(step: &mut Step, thread: &Thread, end: &End)
     requires { 2 ≤ step.old.room }
-    ensures { Moves (λ w. report_if_last thread.now.group (bury thread.now end.now (die_and_flush thread.now w))) 2 step.old step.new }
+    ensures { Moves (λ w. report_if_last thread.now.group
+        (bury thread.now end.now (die_and_flush thread.now w))) 2 step.old step.new }
 {
     die_and_flush(step, thread);
     bury(step, thread, end);

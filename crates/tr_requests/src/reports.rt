@@ -28,7 +28,9 @@ pub fn waited_by(table: &Table, actor: u32, which: Which, number: u64) -> Reply
 
 /// Whether a wait of the starter may give the report of a number.
 pub fn admits_starter_wait(table: &Table, which: Which, flags: WaitFlags, number: u64) -> bool
-    ensures { result ≡ (is_some (ready_death table.now.table which number) || is_some (ready_note table.now.table which flags number)) }
+    ensures { result
+        ≡ (is_some (ready_death table.now.table which number) || is_some
+        (ready_note table.now.table which flags number)) }
 {
     ready_death(table, table.groups(), which, number).is_some()
         || ready_note(table, table.groups(), which, flags, number).is_some()
@@ -36,7 +38,9 @@ pub fn admits_starter_wait(table: &Table, which: Which, flags: WaitFlags, number
 
 /// What a wait of the starter that gives the report of a number tells.
 pub fn waited_by_starter(table: &Table, which: Which, flags: WaitFlags, number: u64) -> Reply
-    ensures { result ≡ waited_thread (ready_death table.now.table which number) (ready_note table.now.table which flags number) }
+    ensures { result
+        ≡ waited_thread (ready_death table.now.table which number)
+        (ready_note table.now.table which flags number) }
 {
     let thread = ready_death(table, table.groups(), which, number).copied();
     let group = ready_note(table, table.groups(), which, flags, number).copied();

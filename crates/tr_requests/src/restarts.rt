@@ -169,7 +169,8 @@ pub fn check_detach(table: &Table, actor: u32, tid: u32, sig: u8) -> Result<Chec
 /// used up, nothing has changed.
 pub fn detach(step: &mut Step, actor: u32, tid: u32, sig: u8) -> Result<Reply, AllocError>
     requires due { check step.old.work.table actor (Detach tid sig) ≡ Ok (Due no_choice) }
-    ensures did { IfOk result (IsStepOf step.old.work.table (entry actor (Detach tid sig)) step.new) }
+    ensures did { IfOk result
+        (IsStepOf step.old.work.table (entry actor (Detach tid sig)) step.new) }
     ensures err { OnErr result (step.new.work.table ≡ step.old.work.table) }
 {
     let signal = Signal::new(sig);

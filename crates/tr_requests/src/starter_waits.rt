@@ -23,13 +23,16 @@ use tr_wait::{Status, WaitFlags, Which};
 
 /// Whether the wait asks for the group, and its leader is in the table.
 fn is_led(table: &Table, which: Which, group: &Group) -> bool
-    ensures { result ≡ (asks_for which group.now.tgid && is_some (thread_of table.now.table group.now.tgid)) }
+    ensures { result
+        ≡ (asks_for which group.now.tgid && is_some (thread_of table.now.table group.now.tgid)) }
 {
     which.asks_for(group.tgid) && table.find(group.tgid).is_some()
 }
 
 fn has_led(table: &Table, groups: &[Group], which: Which) -> bool
-    ensures { result ≡ list_any (λ g. asks_for which g.tgid && is_some (thread_of table.now.table g.tgid)) groups.now }
+    ensures { result
+        ≡ list_any
+        (λ g. asks_for which g.tgid && is_some (thread_of table.now.table g.tgid)) groups.now }
 {
     groups.iter().any(|g| is_led(table, which, g))
 }
@@ -78,13 +81,17 @@ fn is_note_wanted(flags: WaitFlags, note: &Option<Report>) -> bool
 
 /// Whether a group has a note that the flags ask for, while nobody traces the group.
 fn is_note_shown(table: &Table, flags: WaitFlags, group: &Group) -> bool
-    ensures { result ≡ (not (has_traced table.now.table group.now.tgid) && note_wanted flags group.now.note) }
+    ensures { result
+        ≡ (not (has_traced table.now.table group.now.tgid) && note_wanted flags group.now.note) }
 {
     is_note_wanted(flags, &group.note) && !table.has_traced(group.tgid)
 }
 
 fn note_of(table: &Table, flags: WaitFlags, group: &Group) -> Option<u64>
-    ensures { result ≡ first_number (if has_traced table.now.table group.now.tgid then [] else note_number flags group.now.note) }
+    ensures { result
+        ≡ first_number (if has_traced table.now.table group.now.tgid
+        then []
+        else note_number flags group.now.note) }
 {
     if is_note_shown(table, flags, group) {
         number_of(&group.note)
@@ -106,7 +113,10 @@ fn ready_of_group(table: &Table, flags: WaitFlags, group: &Group) -> Option<u64>
 
 /// The first report, in table order, of the groups that the starter asks for.
 fn first_for_starter(table: &Table, groups: &[Group], which: Which, flags: WaitFlags) -> Option<u64>
-    ensures { result ≡ first_number (flat_map (ready_of_group table.now.table flags) (led_among table.now.table which groups.now)) }
+    ensures { result
+        ≡ first_number
+        (flat_map (ready_of_group table.now.table flags)
+        (led_among table.now.table which groups.now)) }
 {
     for group in groups {
         if is_led(table, which, group) {
@@ -125,7 +135,8 @@ pub(crate) fn ready_death<'a>(
     which: Which,
     number: u64,
 ) -> Option<&'a Thread>
-    ensures { option_copied result ≡ with_death table.now.table (led_among table.now.table which groups.now) number }
+    ensures { option_copied result
+        ≡ with_death table.now.table (led_among table.now.table which groups.now) number }
 {
     for group in groups {
         let leader = table.find(group.tgid);
@@ -150,7 +161,8 @@ pub(crate) fn ready_note<'a>(
     flags: WaitFlags,
     number: u64,
 ) -> Option<&'a Group>
-    ensures { option_copied result ≡ with_note (filter (shows_note table.now.table which flags) groups.now) number }
+    ensures { option_copied result
+        ≡ with_note (filter (shows_note table.now.table which flags) groups.now) number }
 {
     for group in groups {
         if shows_note(table, which, flags, group) && is_numbered(&group.note, number) {
@@ -207,7 +219,13 @@ pub fn starter_wait(
     r: u64,
 ) -> Result<Reply, AllocError>
     requires due { Permits step.old.work.table actor (StarterWait which flags) (gives_report r) }
-    ensures did { IfOk result (IsStepOf step.old.work.table (record { actor = actor; event = StarterWait which flags; choice = gives_report r }) step.new) }
+    ensures did { IfOk result
+        (IsStepOf step.old.work.table
+        (record {
+          actor = actor;
+          event = StarterWait which flags;
+          choice = gives_report r;
+        }) step.new) }
     ensures err { OnErr result (step.new.work.table ≡ step.old.work.table) }
 {
     let table = step.table();

@@ -120,7 +120,8 @@ fn leave_at(step: &mut Step, actor: u32, id: u32)
 /// Each of these threads is left by its tracer, in their order.
 fn leave_each(step: &mut Step, actor: u32, ids: &[u32])
     requires { 3 * length ids.now ≤ step.old.room }
-    ensures { Moves (each ids.now (λ id. at id (lose_tracer actor))) (3 * length ids.now) step.old step.new }
+    ensures { Moves (each ids.now (λ id. at id (lose_tracer actor)))
+        (3 * length ids.now) step.old step.new }
 {
     for i in 0..ids.len() {
         leave_at(step, actor, ids[i]);

@@ -149,7 +149,8 @@ pub fn check_seize(table: &Table, tid: u32, options: Options) -> Result<Checked,
 /// thread is then in `PTRACE_EVENT_STOP`. Where memory is refused, or the numbers are used up, nothing has changed.
 pub fn seize(step: &mut Step, actor: u32, tid: u32, options: Options) -> Result<Reply, AllocError>
     requires due { check step.old.work.table actor (Seize tid options) ≡ Ok (Due no_choice) }
-    ensures did { IfOk result (IsStepOf step.old.work.table (entry actor (Seize tid options)) step.new) }
+    ensures did { IfOk result
+        (IsStepOf step.old.work.table (entry actor (Seize tid options)) step.new) }
     ensures err { OnErr result (step.new.work.table ≡ step.old.work.table) }
 {
     step.begin(1)?;
@@ -179,7 +180,8 @@ pub fn check_interrupt(table: &Table, actor: u32, tid: u32) -> Result<Checked, R
 /// nothing has changed.
 pub fn interrupt(step: &mut Step, actor: u32, tid: u32) -> Result<Reply, AllocError>
     requires due { check step.old.work.table actor (Interrupt tid) ≡ Ok (Due no_choice) }
-    ensures did { IfOk result (IsStepOf step.old.work.table (entry actor (Interrupt tid)) step.new) }
+    ensures did { IfOk result
+        (IsStepOf step.old.work.table (entry actor (Interrupt tid)) step.new) }
     ensures err { OnErr result (step.new.work.table ≡ step.old.work.table) }
 {
     change_own(step, tid, &ThreadChange::Interrupt)
@@ -212,7 +214,8 @@ pub fn set_options(
     options: Options,
 ) -> Result<Reply, AllocError>
     requires due { check step.old.work.table actor (SetOptions tid options) ≡ Ok (Due no_choice) }
-    ensures did { IfOk result (IsStepOf step.old.work.table (entry actor (SetOptions tid options)) step.new) }
+    ensures did { IfOk result
+        (IsStepOf step.old.work.table (entry actor (SetOptions tid options)) step.new) }
     ensures err { OnErr result (step.new.work.table ≡ step.old.work.table) }
 {
     change_own(step, tid, &ThreadChange::SetOptions(options))

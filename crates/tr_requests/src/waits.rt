@@ -51,7 +51,9 @@ pub(crate) fn is_numbered(report: &Option<Report>, number: u64) -> bool
 /// The first report, in table order, of the actor's tracees that it asks for.
 #[tactic(auto, using(crate::proofs::Firsts::first_reported))]
 fn first_ready(table: &Table, actor: u32, which: Which) -> Option<u64>
-    ensures { result ≡ first_number (flat_map (λ t. report_number t.report) (asked_among table.now.table.threads actor which)) }
+    ensures { result
+        ≡ first_number
+        (flat_map (λ t. report_number t.report) (asked_among table.now.table.threads actor which)) }
 {
     let thread = table.reported(actor, which, None)?;
     number_of(&thread.report)
@@ -60,7 +62,8 @@ fn first_ready(table: &Table, actor: u32, which: Which) -> Option<u64>
 /// The first of the actor's tracees that it asks for that has the report of this number.
 #[tactic(auto, using(crate::proofs::Firsts::with_number))]
 pub fn ready_thread(table: &Table, actor: u32, which: Which, number: u64) -> Option<&Thread>
-    ensures { option_copied result ≡ with_report (asked_among table.now.table.threads actor which) number }
+    ensures { option_copied result
+        ≡ with_report (asked_among table.now.table.threads actor which) number }
 {
     table.reported(actor, which, Some(number))
 }
@@ -146,7 +149,9 @@ fn consume_some(step: &mut Step, thread: &Option<Thread>)
 /// next. Where memory is refused, or the numbers are used up, nothing has changed.
 pub fn wait(step: &mut Step, actor: u32, which: Which, r: u64) -> Result<Reply, AllocError>
     requires due { Permits step.old.work.table actor (Wait which) (gives_report r) }
-    ensures did { IfOk result (IsStepOf step.old.work.table (record { actor = actor; event = Wait which; choice = gives_report r }) step.new) }
+    ensures did { IfOk result
+        (IsStepOf step.old.work.table
+        (record { actor = actor; event = Wait which; choice = gives_report r }) step.new) }
     ensures err { OnErr result (step.new.work.table ≡ step.old.work.table) }
 {
     let thread = ready_thread(step.table(), actor, which, r).copied();

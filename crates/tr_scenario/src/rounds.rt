@@ -36,8 +36,10 @@ pub(crate) fn print_rounds<W: Sink>(
     writer: &mut W,
 ) -> Result<(), ScenarioFault>
     requires { W.failures writer.old < 2 ^ 64 - 1 }
-    ensures prints { Prints W.taken W.failures writer.old writer.new (rounds_text (so_far kernel.old) (all_rounds (so_far kernel.old) scripts.now)) result }
-    ensures makes { OnOk result (Makes kernel.old kernel.new (all_rounds (so_far kernel.old) scripts.now).calls) }
+    ensures prints { Prints W.taken W.failures writer.old writer.new
+        (rounds_text (so_far kernel.old) (all_rounds (so_far kernel.old) scripts.now)) result }
+    ensures makes { OnOk result
+        (Makes kernel.old kernel.new (all_rounds (so_far kernel.old) scripts.now).calls) }
 {
     let mut players = players_of(alloc, scripts)?;
     print_turns(alloc, kernel, &mut players, MOST_TURNS, writer)?;
@@ -68,9 +70,13 @@ fn print_turns<W: Sink>(
 ) -> Result<(), ScenarioFault>
     requires room { W.failures writer.old < 2 ^ 64 - 1 }
     requires low { AreLow 0 players.old }
-    ensures prints { Prints W.taken W.failures writer.old writer.new (calls_text (so_far kernel.old) (rounds turns (so_far kernel.old) players.old).calls) result }
-    ensures makes { OnOk result (Makes kernel.old kernel.new (rounds turns (so_far kernel.old) players.old).calls) }
-    ensures players { OnOk result (players.new ≡ (rounds turns (so_far kernel.old) players.old).players) }
+    ensures prints { Prints W.taken W.failures writer.old writer.new
+        (calls_text (so_far kernel.old)
+        (rounds turns (so_far kernel.old) players.old).calls) result }
+    ensures makes { OnOk result
+        (Makes kernel.old kernel.new (rounds turns (so_far kernel.old) players.old).calls) }
+    ensures players { OnOk result
+        (players.new ≡ (rounds turns (so_far kernel.old) players.old).players) }
 {
     let mut kept = String::new(alloc);
     fill_rounds(kernel, players, turns, &mut kept, writer)?;
@@ -87,9 +93,14 @@ fn fill_rounds<W: Sink>(
 ) -> Result<(), ScenarioFault>
     requires room { W.failures writer.old < 2 ^ 64 - 1 }
     requires low { AreLow 0 players.old }
-    ensures prints { Fills W.taken W.failures writer.old writer.new (string_bytes kept.old) (string_bytes kept.new) (calls_text (so_far kernel.old) (rounds turns (so_far kernel.old) players.old).calls) result }
-    ensures makes { OnOk result (Makes kernel.old kernel.new (rounds turns (so_far kernel.old) players.old).calls) }
-    ensures players { OnOk result (players.new ≡ (rounds turns (so_far kernel.old) players.old).players) }
+    ensures prints { Fills W.taken W.failures writer.old writer.new (string_bytes kept.old)
+        (string_bytes kept.new)
+        (calls_text (so_far kernel.old)
+        (rounds turns (so_far kernel.old) players.old).calls) result }
+    ensures makes { OnOk result
+        (Makes kernel.old kernel.new (rounds turns (so_far kernel.old) players.old).calls) }
+    ensures players { OnOk result
+        (players.new ≡ (rounds turns (so_far kernel.old) players.old).players) }
 {
     for _ in 0..turns {
         if are_at_end(players) {
@@ -115,8 +126,11 @@ fn fill_round<W: Sink>(
 ) -> Result<(), ScenarioFault>
     requires room { W.failures writer.old < 2 ^ 64 - 1 }
     requires low { AreLow (2 ^ 32 - 1) players.old }
-    ensures prints { Fills W.taken W.failures writer.old writer.new (string_bytes kept.old) (string_bytes kept.new) (calls_text (so_far kernel.old) (round (so_far kernel.old) players.old).calls) result }
-    ensures makes { OnOk result (Makes kernel.old kernel.new (round (so_far kernel.old) players.old).calls) }
+    ensures prints { Fills W.taken W.failures writer.old writer.new (string_bytes kept.old)
+        (string_bytes kept.new)
+        (calls_text (so_far kernel.old) (round (so_far kernel.old) players.old).calls) result }
+    ensures makes { OnOk result
+        (Makes kernel.old kernel.new (round (so_far kernel.old) players.old).calls) }
     ensures players { OnOk result (players.new ≡ (round (so_far kernel.old) players.old).players) }
     ensures low { OnOk result ((n : ℕ) → AreLow n players.old → AreLow (n + 1) players.new) }
 {
@@ -135,8 +149,11 @@ fn fill_turn<W: Sink>(
 ) -> Result<(), ScenarioFault>
     requires room { W.failures writer.old < 2 ^ 64 - 1 }
     requires low { IsLow (2 ^ 32 - 1) player.old }
-    ensures prints { Fills W.taken W.failures writer.old writer.new (string_bytes kept.old) (string_bytes kept.new) (calls_text (so_far kernel.old) (turn (so_far kernel.old) player.old).calls) result }
-    ensures makes { OnOk result (Makes kernel.old kernel.new (turn (so_far kernel.old) player.old).calls) }
+    ensures prints { Fills W.taken W.failures writer.old writer.new (string_bytes kept.old)
+        (string_bytes kept.new)
+        (calls_text (so_far kernel.old) (turn (so_far kernel.old) player.old).calls) result }
+    ensures makes { OnOk result
+        (Makes kernel.old kernel.new (turn (so_far kernel.old) player.old).calls) }
     ensures player { OnOk result ((turn (so_far kernel.old) player.old).players ≡ player.new ∷ []) }
     ensures low { OnOk result ((n : ℕ) → IsLow n player.old → IsLow (n + 1) player.new) }
 {
@@ -166,7 +183,8 @@ fn print_players<W: Sink>(
 }
 
 fn push_players(text: &mut String, players: &[Player<'_>]) -> Result<(), AllocError>
-    ensures { OnOk result (string_bytes text.new ≡ string_bytes text.old ++ player_lines players.now) }
+    ensures { OnOk result
+        (string_bytes text.new ≡ string_bytes text.old ++ player_lines players.now) }
 {
     for player in players {
         push_worker(text, player.actor, &final_tally(player))?;

@@ -80,7 +80,8 @@ pub fn set_action(
     how: Action,
 ) -> Result<Reply, AllocError>
     requires due { check step.old.work.table actor (SetAction tid sig how) ≡ Ok (Due no_choice) }
-    ensures did { IfOk result (IsStepOf step.old.work.table (entry actor (SetAction tid sig how)) step.new) }
+    ensures did { IfOk result
+        (IsStepOf step.old.work.table (entry actor (SetAction tid sig how)) step.new) }
     ensures err { OnErr result (step.new.work.table ≡ step.old.work.table) }
 {
     let signal = Signal::new(sig).unwrap();

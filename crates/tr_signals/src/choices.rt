@@ -33,14 +33,18 @@ pub fn admits_take(table: &Table, tid: u32, n: u64) -> bool
 
 /// Whether it is a thread of the group, too.
 pub fn admits_take_any(table: &Table, tgid: u32, tid: u32, n: u64) -> bool
-    ensures { result ≡ (is_in tgid (thread_of table.now.table tid) && takes table.now.table (thread_of table.now.table tid) n) }
+    ensures { result
+        ≡ (is_in tgid (thread_of table.now.table tid) && takes table.now.table
+        (thread_of table.now.table tid) n) }
 {
     is_in(table, tgid, tid) && admits_take(table, tid, n)
 }
 
 /// What a take of the pending instance of a number by a thread tells.
 pub fn took(table: &Table, tid: u32, n: u64) -> Reply
-    ensures { result ≡ took_reply table.now.table (thread_of table.now.table tid) (instance_in table.now.table.waiting n) }
+    ensures { result
+        ≡ took_reply table.now.table (thread_of table.now.table tid)
+        (instance_in table.now.table.waiting n) }
 {
     let Some(thread) = table.find(tid) else {
         return Reply::Nothing;

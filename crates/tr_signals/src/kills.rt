@@ -61,7 +61,8 @@ pub fn fate_in(ended: &[Ending], n: u64) -> Fate
 fn send_numbered(step: &mut Step, sig: u8, info: &Info, target: Target) -> Result<Reply, AllocError>
     requires least { 1 ≤ sig }
     requires greatest { sig ≤ 64 }
-    ensures did { IfOk result (ComesTo (send_outcome sig info.now target step.old.work.table) None step.new) }
+    ensures did { IfOk result
+        (ComesTo (send_outcome sig info.now target step.old.work.table) None step.new) }
     ensures err { OnErr result (step.new.work.table ≡ step.old.work.table) }
 {
     let signal = Signal::new(sig).unwrap();
@@ -85,7 +86,8 @@ pub fn check_kill(table: &Table, tgid: u32, sig: u8) -> Result<Checked, Refusal>
 /// Where memory is refused, or the numbers are used up, nothing has changed.
 pub fn kill(step: &mut Step, actor: u32, tgid: u32, sig: u8) -> Result<Reply, AllocError>
     requires due { check step.old.work.table actor (Kill tgid sig) ≡ Ok (Due no_choice) }
-    ensures did { IfOk result (IsStepOf step.old.work.table (entry actor (Kill tgid sig)) step.new) }
+    ensures did { IfOk result
+        (IsStepOf step.old.work.table (entry actor (Kill tgid sig)) step.new) }
     ensures err { OnErr result (step.new.work.table ≡ step.old.work.table) }
 {
     let info = Info {
@@ -123,7 +125,8 @@ pub fn tgkill(
     sig: u8,
 ) -> Result<Reply, AllocError>
     requires due { check step.old.work.table actor (Tgkill tgid tid sig) ≡ Ok (Due no_choice) }
-    ensures did { IfOk result (IsStepOf step.old.work.table (entry actor (Tgkill tgid tid sig)) step.new) }
+    ensures did { IfOk result
+        (IsStepOf step.old.work.table (entry actor (Tgkill tgid tid sig)) step.new) }
     ensures err { OnErr result (step.new.work.table ≡ step.old.work.table) }
 {
     let info = Info {
@@ -151,7 +154,8 @@ pub fn sigqueue(
     value: i32,
 ) -> Result<Reply, AllocError>
     requires due { check step.old.work.table actor (Sigqueue tgid sig value) ≡ Ok (Due no_choice) }
-    ensures did { IfOk result (IsStepOf step.old.work.table (entry actor (Sigqueue tgid sig value)) step.new) }
+    ensures did { IfOk result
+        (IsStepOf step.old.work.table (entry actor (Sigqueue tgid sig value)) step.new) }
     ensures err { OnErr result (step.new.work.table ≡ step.old.work.table) }
 {
     let info = Info {

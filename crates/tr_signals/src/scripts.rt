@@ -42,7 +42,8 @@ pub fn check_script(table: &Table, tid: u32) -> Result<Checked, Refusal>
 /// An entry that changes the record of one thread. Where memory is refused, or the numbers are used up, nothing has
 /// changed.
 pub fn change_own(step: &mut Step, tid: u32, change: &ThreadChange) -> Result<Reply, AllocError>
-    ensures did { IfOk result (ComesTo (own_outcome tid change.now step.old.work.table) None step.new) }
+    ensures did { IfOk result
+        (ComesTo (own_outcome tid change.now step.old.work.table) None step.new) }
     ensures err { OnErr result (step.new.work.table ≡ step.old.work.table) }
 {
     step.begin(0)?;

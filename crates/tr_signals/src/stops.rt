@@ -22,7 +22,8 @@ use tr_tracee::{Stop, Thread};
 use tr_wait::StopSig;
 
 fn stop_of(thread: &Thread, signal: Signal) -> Stop
-    ensures { result ≡ (if seized thread.now.trace then stop.Event (stop_sig_of signal) else stop.Group signal) }
+    ensures { result
+        ≡ (if seized thread.now.trace then stop.Event (stop_sig_of signal) else stop.Group signal) }
 {
     if thread.is_seized() {
         Stop::Event(StopSig::of(signal))

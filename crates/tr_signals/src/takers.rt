@@ -65,7 +65,9 @@ pub fn take_any(
     n: u64,
 ) -> Result<Reply, AllocError>
     requires due { Permits step.old.work.table actor (TakeAny tgid) (takes_by tid n) }
-    ensures did { IfOk result (IsStepOf step.old.work.table (record { actor = actor; event = TakeAny tgid; choice = takes_by tid n }) step.new) }
+    ensures did { IfOk result
+        (IsStepOf step.old.work.table
+        (record { actor = actor; event = TakeAny tgid; choice = takes_by tid n }) step.new) }
     ensures err { OnErr result (step.new.work.table ≡ step.old.work.table) }
 {
     let table = step.table();

@@ -72,7 +72,8 @@ pub(crate) fn did(table: &Table, thread: &Thread, instance: &Instance) -> Did
 
 fn deliver_to(step: &mut Step, thread: &Thread, instance: &Instance, did: Did)
     requires { 2 ≤ step.old.room }
-    ensures { Moves (λ w. act thread.now instance.now.sig false did (deliver instance.now.n w)) 2 step.old step.new }
+    ensures { Moves (λ w. act thread.now instance.now.sig false did
+        (deliver instance.now.n w)) 2 step.old step.new }
 {
     step.deliver(instance.n);
     act(step, thread, instance.sig, false, did);
@@ -100,7 +101,9 @@ pub(crate) fn take_due(
     instance: &Instance,
 ) -> Result<Reply, AllocError>
     requires takes { Takes step.old.work.table thread.now instance.now }
-    ensures did { IfOk result (ComesTo (take_outcome step.old.work.table thread.now instance.now) (target_in step.old.work.table.waiting instance.now.n) step.new) }
+    ensures did { IfOk result
+        (ComesTo (take_outcome step.old.work.table thread.now instance.now)
+        (target_in step.old.work.table.waiting instance.now.n) step.new) }
     ensures err { OnErr result (step.new.work.table ≡ step.old.work.table) }
 {
     let queue = step.table().target_of(instance.n).unwrap();
@@ -121,7 +124,9 @@ pub(crate) fn take_due(
 /// nothing has changed.
 pub fn take(step: &mut Step, actor: u32, tid: u32, n: u64) -> Result<Reply, AllocError>
     requires due { Permits step.old.work.table actor (Take tid) (takes_instance n) }
-    ensures did { IfOk result (IsStepOf step.old.work.table (record { actor = actor; event = Take tid; choice = takes_instance n }) step.new) }
+    ensures did { IfOk result
+        (IsStepOf step.old.work.table
+        (record { actor = actor; event = Take tid; choice = takes_instance n }) step.new) }
     ensures err { OnErr result (step.new.work.table ≡ step.old.work.table) }
 {
     let table = step.table();

@@ -30,7 +30,8 @@ pub enum StatusFault {
 /// it, and then nothing is put. `Write` where the sink failed; it then took a front of the text.
 pub fn write_status<K: Sink>(kernel: &Kernel, tid: u32, sink: &mut K) -> Result<(), StatusFault>
     requires { K.failures sink.old < 2 ^ 64 - 1 }
-    ensures { WritesStatus K.taken K.failures sink.old sink.new kernel.now.table (thread_of kernel.now.table tid) result }
+    ensures { WritesStatus K.taken K.failures sink.old sink.new kernel.now.table
+        (thread_of kernel.now.table tid) result }
 {
     write_status_of(kernel.table(), tid, sink)
 }
@@ -39,7 +40,8 @@ pub fn write_status<K: Sink>(kernel: &Kernel, tid: u32, sink: &mut K) -> Result<
 /// `Write` where the sink failed; it then took a front of the text.
 pub fn write_status_of<K: Sink>(table: &Table, tid: u32, sink: &mut K) -> Result<(), StatusFault>
     requires { K.failures sink.old < 2 ^ 64 - 1 }
-    ensures { WritesStatus K.taken K.failures sink.old sink.new table.now.table (thread_of table.now.table tid) result }
+    ensures { WritesStatus K.taken K.failures sink.old sink.new table.now.table
+        (thread_of table.now.table tid) result }
 {
     match table.find(tid) {
         Some(thread) => match write_thread(table, thread, sink) {
@@ -53,7 +55,8 @@ pub fn write_status_of<K: Sink>(table: &Table, tid: u32, sink: &mut K) -> Result
 /// Writes the status text of a thread of the table. Where the sink fails, it took a front of the text.
 pub fn write_thread<K: Sink>(table: &Table, thread: &Thread, sink: &mut K) -> Result<(), Failed>
     requires { K.failures sink.old < 2 ^ 64 - 1 }
-    ensures { Writes K.taken K.failures sink.old sink.new (status_text table.now.table thread.now) result }
+    ensures { Writes K.taken K.failures sink.old sink.new
+        (status_text table.now.table thread.now) result }
 {
     let mut text = StatusBuffer::new();
     compose_status(&mut text, table, thread);

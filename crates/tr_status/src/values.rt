@@ -27,11 +27,17 @@ pub(crate) struct Masks {
 
 /// The sets of a thread.
 pub(crate) fn masks_of(table: &Table, thread: &Thread) -> Masks
-    ensures own { result.own ≡ set_digits (waits_for table.now.table (target.Thread thread.now.id)) }
-    ensures shared { result.shared ≡ set_digits (waits_for table.now.table (target.Group thread.now.group)) }
+    ensures own { result.own
+        ≡ set_digits (waits_for table.now.table (target.Thread thread.now.id)) }
+    ensures shared { result.shared
+        ≡ set_digits (waits_for table.now.table (target.Group thread.now.group)) }
     ensures blocked { result.blocked ≡ set_digits (has thread.now.mask) }
-    ensures ignored { result.ignored ≡ set_digits (has_action action.Ignore (actions_of (group_of table.now.table thread.now.group))) }
-    ensures caught { result.caught ≡ set_digits (has_action action.Catch (actions_of (group_of table.now.table thread.now.group))) }
+    ensures ignored { result.ignored
+        ≡ set_digits
+        (has_action action.Ignore (actions_of (group_of table.now.table thread.now.group))) }
+    ensures caught { result.caught
+        ≡ set_digits
+        (has_action action.Catch (actions_of (group_of table.now.table thread.now.group))) }
 {
     let group = table.group(thread.group);
     Masks {
@@ -57,7 +63,8 @@ fn digits_with(group: Option<&Group>, wanted: Action) -> [u8; 16]
 
 /// The signals that have this action in a group, all of them `Default` where there is no group.
 fn signals_with(group: Option<&Group>, wanted: Action) -> SigSet
-    ensures { (n : ℕ) → has result n ≡ has_action wanted (actions_of (option_copied group.entry)) n }
+    ensures { (n : ℕ)
+        → has result n ≡ has_action wanted (actions_of (option_copied group.entry)) n }
 {
     match group {
         Some(group) => signals_in(&group.actions, wanted),

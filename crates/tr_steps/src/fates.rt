@@ -11,7 +11,9 @@ use tr_sigset::Signal;
 
 impl Step {
     fn fate_of_kill(&self, target: Target) -> Fate
-        ensures { result ≡ (if all_dead self.now.work.table (owner self.now.work.table target) then Flushed else Delivered) }
+        ensures { result
+            ≡ (if all_dead self.now.work.table
+            (owner self.now.work.table target) then Flushed else Delivered) }
     {
         if self.table().all_dead(self.table().owner(target)) {
             Fate::Flushed

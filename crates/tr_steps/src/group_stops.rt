@@ -22,13 +22,17 @@ impl Step {
     }
 
     fn tells_starter(&self, tgid: u32) -> bool
-        ensures { result ≡ (is_complete (stop_of (group_of self.now.work.table tgid)) && not (has_traced self.now.work.table tgid)) }
+        ensures { result
+            ≡ (is_complete (stop_of (group_of self.now.work.table tgid))
+            && not (has_traced self.now.work.table tgid)) }
     {
         self.table().stop_of(tgid).is_complete() && !self.table().has_traced(tgid)
     }
 
     fn can_complete(&self, tgid: u32) -> bool
-        ensures { result ≡ (is_stopping (stop_of (group_of self.now.work.table tgid)) && not (has_stop_mark self.now.work.table tgid)) }
+        ensures { result
+            ≡ (is_stopping (stop_of (group_of self.now.work.table tgid))
+            && not (has_stop_mark self.now.work.table tgid)) }
     {
         self.table().stop_of(tgid).is_stopping() && !self.table().has_stop_mark(tgid)
     }
@@ -43,7 +47,9 @@ impl Step {
 
     fn end_stop_where(&mut self, ends: bool, tells: bool, tgid: u32)
         requires { 1 ≤ self.old.room }
-        ensures { Moves (when ends (λ u. when tells (note tgid status.Continued) (regroup (only_group tgid ended_stop) u))) 1 self.old self.new }
+        ensures { Moves (when ends
+            (λ u. when tells (note tgid status.Continued)
+            (regroup (only_group tgid ended_stop) u))) 1 self.old self.new }
     {
         if ends {
             self.change_group(tgid, &GroupChange::EndStop);

@@ -62,7 +62,8 @@ impl Step {
     /// What happens to the record of one group.
     #[tactic(auto, using(crate::proofs::Groups::as_many_regrouped))]
     pub fn change_group(&mut self, tgid: u32, change: &GroupChange)
-        ensures { Moves (regroup (only_group tgid (group_changed_by change.now))) 0 self.old self.new }
+        ensures { Moves (regroup
+            (only_group tgid (group_changed_by change.now))) 0 self.old self.new }
     {
         self.table.change_group(tgid, change);
     }
@@ -124,7 +125,8 @@ impl Step {
     #[tactic(auto, using(crate::proofs::Helds::filter_halves))]
     pub fn flush_queue(&mut self, target: Target)
         requires { 1 ≤ self.old.room }
-        ensures { Moves (end_waiting Flushed (λ q. same_target target q.target)) 0 self.old self.new }
+        ensures { Moves (end_waiting Flushed
+            (λ q. same_target target q.target)) 0 self.old self.new }
     {
         self.table.flush_queue(target, &mut self.ended);
     }
@@ -207,7 +209,8 @@ impl Step {
     /// Each thread of a group that isn't dead begins to leave, and what they held is flushed.
     pub fn leave(&mut self, tgid: u32, kill: bool, end: &End)
         requires { 1 ≤ self.old.room }
-        ensures { Moves (become Flushed (at_group tgid (begun_to_leave kill end.now))) 0 self.old self.new }
+        ensures { Moves (become Flushed
+            (at_group tgid (begun_to_leave kill end.now))) 0 self.old self.new }
     {
         self.table.leave(tgid, kill, end, &mut self.ended);
     }
@@ -216,7 +219,8 @@ impl Step {
     /// and what they held is flushed.
     pub fn leave_for_exec(&mut self, tgid: u32, id: u32, end: &End)
         requires { 1 ≤ self.old.room }
-        ensures { Moves (become Flushed (at_group tgid (begun_to_leave_by_exec id end.now))) 0 self.old self.new }
+        ensures { Moves (become Flushed
+            (at_group tgid (begun_to_leave_by_exec id end.now))) 0 self.old self.new }
     {
         self.table.leave_for_exec(tgid, id, end, &mut self.ended);
     }
@@ -225,7 +229,8 @@ impl Step {
     #[tactic(auto, using(crate::proofs::Helds::fewer_without, crate::proofs::Helds::helds_changed))]
     pub fn hold(&mut self, thread: &Thread, instance: &Instance)
         requires { 1 ≤ self.old.room }
-        ensures { Moves (λ w. entered_now (stop.Signal instance.now false) thread.now (pulled instance.now w)) 1 self.old self.new }
+        ensures { Moves (λ w. entered_now (stop.Signal instance.now false) thread.now
+            (pulled instance.now w)) 1 self.old self.new }
     {
         self.room -= 1;
         self.table.pull(instance.n);

@@ -54,7 +54,8 @@ impl Model for Step {
 /// How many moves a step of n moves has with one more for each group. None where so many signals or reports can't be
 /// numbered any more, which a kernel's entry limit rules out.
 fn all_moves(table: &Table, n: usize) -> Option<usize>
-    ensures { SomeIff result (CanNumber table.now.table (length table.now.table.groups + n)) (length table.now.table.groups + n) }
+    ensures { SomeIff result (CanNumber table.now.table (length table.now.table.groups + n))
+        (length table.now.table.groups + n) }
 {
     let moves = table.groups().len().checked_add(n)?;
     let _accepted = table.accepted().checked_add(moves as u64)?;

@@ -44,21 +44,36 @@ impl Table {
 
     /// A group-stop begins for the threads of a group: they are marked.
     pub fn mark_all(&mut self, tgid: u32)
-        ensures { self.new ≡ record self.old { table = record self.old.table { threads = map (at_group tgid marked) self.old.table.threads } } }
+        ensures { self.new
+            ≡ record self.old {
+              table = record self.old.table {
+                threads = map (at_group tgid marked) self.old.table.threads;
+              };
+            } }
     {
         initiate(&mut self.threads, tgid);
     }
 
     /// A SIGCONT comes to the threads of a group; `in_effect` says whether a group-stop is in effect.
     pub fn continue_threads(&mut self, tgid: u32, in_effect: bool)
-        ensures { self.new ≡ record self.old { table = record self.old.table { threads = map (at_group tgid (continued_by in_effect)) self.old.table.threads } } }
+        ensures { self.new
+            ≡ record self.old {
+              table = record self.old.table {
+                threads = map (at_group tgid (continued_by in_effect)) self.old.table.threads;
+              };
+            } }
     {
         continue_all(&mut self.threads, tgid, in_effect);
     }
 
     /// Each signal-delivery-stop of a group notes that a SIGCONT came.
     pub fn note_cont(&mut self, tgid: u32)
-        ensures { self.new ≡ record self.old { table = record self.old.table { threads = map (at_group tgid cont_noted) self.old.table.threads } } }
+        ensures { self.new
+            ≡ record self.old {
+              table = record self.old.table {
+                threads = map (at_group tgid cont_noted) self.old.table.threads;
+              };
+            } }
     {
         note_cont(&mut self.threads, tgid);
     }
@@ -66,9 +81,23 @@ impl Table {
     /// Each thread of a group that isn't dead begins to leave. What they held is flushed, and appended to `ended`.
     pub fn leave(&mut self, tgid: u32, kill: bool, end: &End, ended: &mut Vec<Ending>)
         requires { vec_len ended.old + held_count self.old.table.threads ≤ vec_capacity ended.old }
-        ensures table { self.new ≡ record self.old { table = record self.old.table { threads = map (at_group tgid (begun_to_leave kill end.now)) self.old.table.threads } } }
-        ensures ended { ended.new.items ≡ ended.old.items ++ flat_map (ended_by_change Flushed (at_group tgid (begun_to_leave kill end.now))) self.old.table.threads }
-        ensures len { vec_len ended.new ≡ vec_len ended.old + length (flat_map (ended_by_change Flushed (at_group tgid (begun_to_leave kill end.now))) self.old.table.threads) }
+        ensures table { self.new
+            ≡ record self.old {
+              table = record self.old.table {
+                threads = map
+                    (at_group tgid (begun_to_leave kill end.now)) self.old.table.threads;
+              };
+            } }
+        ensures ended { ended.new.items
+            ≡ ended.old.items
+            ++ flat_map
+            (ended_by_change Flushed
+            (at_group tgid (begun_to_leave kill end.now))) self.old.table.threads }
+        ensures len { vec_len ended.new
+            ≡ vec_len ended.old
+            + length (flat_map
+            (ended_by_change Flushed
+            (at_group tgid (begun_to_leave kill end.now))) self.old.table.threads) }
         ensures capacity { vec_capacity ended.new ≡ vec_capacity ended.old }
     {
         log_leaving(ended, &self.threads, tgid, kill, end);
@@ -79,9 +108,23 @@ impl Table {
     /// What they held is flushed, and appended to `ended`.
     pub fn leave_for_exec(&mut self, tgid: u32, id: u32, end: &End, ended: &mut Vec<Ending>)
         requires { vec_len ended.old + held_count self.old.table.threads ≤ vec_capacity ended.old }
-        ensures table { self.new ≡ record self.old { table = record self.old.table { threads = map (at_group tgid (begun_to_leave_by_exec id end.now)) self.old.table.threads } } }
-        ensures ended { ended.new.items ≡ ended.old.items ++ flat_map (ended_by_change Flushed (at_group tgid (begun_to_leave_by_exec id end.now))) self.old.table.threads }
-        ensures len { vec_len ended.new ≡ vec_len ended.old + length (flat_map (ended_by_change Flushed (at_group tgid (begun_to_leave_by_exec id end.now))) self.old.table.threads) }
+        ensures table { self.new
+            ≡ record self.old {
+              table = record self.old.table {
+                threads = map
+                    (at_group tgid (begun_to_leave_by_exec id end.now)) self.old.table.threads;
+              };
+            } }
+        ensures ended { ended.new.items
+            ≡ ended.old.items
+            ++ flat_map
+            (ended_by_change Flushed
+            (at_group tgid (begun_to_leave_by_exec id end.now))) self.old.table.threads }
+        ensures len { vec_len ended.new
+            ≡ vec_len ended.old
+            + length (flat_map
+            (ended_by_change Flushed
+            (at_group tgid (begun_to_leave_by_exec id end.now))) self.old.table.threads) }
         ensures capacity { vec_capacity ended.new ≡ vec_capacity ended.old }
     {
         self.threads.leave_for_exec(tgid, id, end, ended);
@@ -89,7 +132,13 @@ impl Table {
 
     /// What happens to the record of a thread.
     pub fn change_thread(&mut self, id: u32, change: &ThreadChange)
-        ensures { self.new ≡ record self.old { table = record self.old.table { threads = map (at_thread id (thread_changed_by change.now)) self.old.table.threads } } }
+        ensures { self.new
+            ≡ record self.old {
+              table = record self.old.table {
+                threads = map
+                    (at_thread id (thread_changed_by change.now)) self.old.table.threads;
+              };
+            } }
     {
         self.threads.change(id, change);
     }
@@ -97,7 +146,14 @@ impl Table {
     /// A thread enters a ptrace-stop with the next report.
     pub fn enter(&mut self, id: u32, stop: &Stop)
         requires { self.old.table.raised + 1 < 2 ^ 64 }
-        ensures { self.new ≡ record self.old { table = record self.old.table { threads = changed id (entered_as (self.old.table.raised + 1) stop.now) self.old.table.threads; raised = self.old.table.raised + 1 } } }
+        ensures { self.new
+            ≡ record self.old {
+              table = record self.old.table {
+                threads = changed id
+                    (entered_as (self.old.table.raised + 1) stop.now) self.old.table.threads;
+                raised = self.old.table.raised + 1;
+              };
+            } }
     {
         self.raised += 1;
         self.threads.enter(id, self.raised, stop);
@@ -106,7 +162,14 @@ impl Table {
     /// The next report, on a thread.
     pub fn report(&mut self, id: u32, status: &Status)
         requires { self.old.table.raised + 1 < 2 ^ 64 }
-        ensures { self.new ≡ record self.old { table = record self.old.table { threads = changed id (reported (self.old.table.raised + 1) status.now) self.old.table.threads; raised = self.old.table.raised + 1 } } }
+        ensures { self.new
+            ≡ record self.old {
+              table = record self.old.table {
+                threads = changed id
+                    (reported (self.old.table.raised + 1) status.now) self.old.table.threads;
+                raised = self.old.table.raised + 1;
+              };
+            } }
     {
         self.raised += 1;
         self.threads.report(id, self.raised, status);
@@ -114,7 +177,13 @@ impl Table {
 
     /// What happens to the record of a group.
     pub fn change_group(&mut self, tgid: u32, change: &GroupChange)
-        ensures { self.new ≡ record self.old { table = record self.old.table { groups = map (only_group tgid (group_changed_by change.now)) self.old.table.groups } } }
+        ensures { self.new
+            ≡ record self.old {
+              table = record self.old.table {
+                groups = map
+                    (only_group tgid (group_changed_by change.now)) self.old.table.groups;
+              };
+            } }
     {
         self.groups.change(tgid, change);
     }
@@ -122,7 +191,14 @@ impl Table {
     /// A note of a group for the starter, with the next report.
     pub fn note(&mut self, tgid: u32, status: &Status)
         requires { self.old.table.raised + 1 < 2 ^ 64 }
-        ensures { self.new ≡ record self.old { table = record self.old.table { groups = group_changed tgid (with_note (self.old.table.raised + 1) status.now) self.old.table.groups; raised = self.old.table.raised + 1 } } }
+        ensures { self.new
+            ≡ record self.old {
+              table = record self.old.table {
+                groups = group_changed tgid
+                    (with_note (self.old.table.raised + 1) status.now) self.old.table.groups;
+                raised = self.old.table.raised + 1;
+              };
+            } }
     {
         self.raised += 1;
         self.groups.note(tgid, self.raised, status);
@@ -131,9 +207,12 @@ impl Table {
     /// Accepts a signal that doesn't wait, and gives its number, which is above all that wait.
     pub fn accept(&mut self) -> u64
         requires { self.old.table.accepted + 1 < 2 ^ 64 }
+        ensures table { self.new
+            ≡ record self.old {
+              table = record self.old.table { accepted = self.old.table.accepted + 1 };
+            } }
         ensures number { result ≡ self.old.table.accepted + 1 }
         ensures last { AllBelow result self.old.table.waiting }
-        ensures table { self.new ≡ record self.old { table = record self.old.table { accepted = self.old.table.accepted + 1 } } }
     {
         self.accepted += 1;
         self.accepted
@@ -143,7 +222,19 @@ impl Table {
     pub fn enqueue(&mut self, signal: Signal, info: &Info, target: Target)
         requires number { self.old.table.accepted + 1 < 2 ^ 64 }
         requires room { 0 < self.old.room }
-        ensures table { self.new.table ≡ record self.old.table { waiting = self.old.table.waiting ++ record { instance = record { n = self.old.table.accepted + 1; sig = signal; info = info.now }; target = target } ∷ []; accepted = self.old.table.accepted + 1 } }
+        ensures table { self.new.table
+            ≡ record self.old.table {
+              waiting = self.old.table.waiting
+                  ++ record {
+                    instance = record {
+                      n = self.old.table.accepted + 1;
+                      sig = signal;
+                      info = info.now;
+                    };
+                    target = target;
+                  } ∷ [];
+              accepted = self.old.table.accepted + 1;
+            } }
         ensures room { self.old.room ≤ self.new.room + 1 }
     {
         self.accepted += 1;
@@ -158,10 +249,20 @@ impl Table {
     /// Flushes pending signals of a group, and appends them to `ended`.
     pub fn flush(&mut self, tgid: u32, flush: &Flush, ended: &mut Vec<Ending>)
         requires { vec_len ended.old + length self.old.table.waiting ≤ vec_capacity ended.old }
-        ensures table { self.new.table ≡ record self.old.table { waiting = filter (λ q. not (is_flushed self.old.table.threads tgid flush.now q)) self.old.table.waiting } }
+        ensures table { self.new.table
+            ≡ record self.old.table {
+              waiting = filter
+                  (λ q. not (is_flushed self.old.table.threads tgid flush.now q)) self.old.table.waiting;
+            } }
         ensures room { self.old.room ≤ self.new.room }
-        ensures ended { ended.new.items ≡ ended.old.items ++ map (ending_of Flushed) (filter (is_flushed self.old.table.threads tgid flush.now) self.old.table.waiting) }
-        ensures len { vec_len ended.new ≡ vec_len ended.old + length (filter (is_flushed self.old.table.threads tgid flush.now) self.old.table.waiting) }
+        ensures ended { ended.new.items
+            ≡ ended.old.items
+            ++ map (ending_of Flushed)
+            (filter (is_flushed self.old.table.threads tgid flush.now) self.old.table.waiting) }
+        ensures len { vec_len ended.new
+            ≡ vec_len ended.old
+            + length (filter
+            (is_flushed self.old.table.threads tgid flush.now) self.old.table.waiting) }
         ensures capacity { vec_capacity ended.new ≡ vec_capacity ended.old }
     {
         let picked = Picked::Group(tgid, *flush);
@@ -171,10 +272,16 @@ impl Table {
     /// Delivers the pending instance of a number, and appends it to `ended`.
     pub fn deliver(&mut self, n: u64, ended: &mut Vec<Ending>)
         requires { vec_len ended.old + length self.old.table.waiting ≤ vec_capacity ended.old }
-        ensures table { self.new.table ≡ record self.old.table { waiting = filter (λ q. not (q.instance.n == n)) self.old.table.waiting } }
+        ensures table { self.new.table
+            ≡ record self.old.table {
+              waiting = filter (λ q. not (q.instance.n == n)) self.old.table.waiting;
+            } }
         ensures room { self.old.room ≤ self.new.room }
-        ensures ended { ended.new.items ≡ ended.old.items ++ map (ending_of Delivered) (filter (λ q. q.instance.n == n) self.old.table.waiting) }
-        ensures len { vec_len ended.new ≡ vec_len ended.old + length (filter (λ q. q.instance.n == n) self.old.table.waiting) }
+        ensures ended { ended.new.items
+            ≡ ended.old.items
+            ++ map (ending_of Delivered) (filter (λ q. q.instance.n == n) self.old.table.waiting) }
+        ensures len { vec_len ended.new
+            ≡ vec_len ended.old + length (filter (λ q. q.instance.n == n) self.old.table.waiting) }
         ensures capacity { vec_capacity ended.new ≡ vec_capacity ended.old }
     {
         if self.pending.remove(n).is_some() {
@@ -187,7 +294,8 @@ impl Table {
 
     /// Takes the pending instance of a number out, for a signal-delivery-stop to hold.
     pub fn pull(&mut self, n: u64)
-        ensures table { self.new.table ≡ record self.old.table { waiting = without_instance n self.old.table.waiting } }
+        ensures table { self.new.table
+            ≡ record self.old.table { waiting = without_instance n self.old.table.waiting } }
         ensures room { self.old.room ≤ self.new.room }
     {
         let _pulled = self.pending.remove(n);

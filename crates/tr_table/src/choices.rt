@@ -28,7 +28,9 @@ impl Table {
     /// Whether a thread that blocks these signals may take the instance of a number from the target's queue: it waits
     /// there unblocked, and no other that does goes before it.
     pub fn may_take(&self, target: Target, blocked: SigSet, n: u64) -> bool
-        ensures { result ≡ list_any (λ i. i.n == n) (choices_in (unblocked blocked (queue self.now.table target))) }
+        ensures { result
+            ≡ list_any (λ i. i.n == n)
+            (choices_in (unblocked blocked (queue self.now.table target))) }
     {
         may_take(&self.pending.slots, target, blocked, n)
     }
@@ -98,7 +100,10 @@ fn is_choice(slots: &[Slot], slot: &Slot, target: Target, blocked: SigSet, n: u6
 }
 
 fn may_take(slots: &[Slot], target: Target, blocked: SigSet, n: u64) -> bool
-    ensures { result ≡ list_any (λ i. i.n == n) (filter (goes_first (open_in target blocked slots.now)) (open_in target blocked slots.now)) }
+    ensures { result
+        ≡ list_any (λ i. i.n == n)
+        (filter (goes_first (open_in target blocked slots.now))
+        (open_in target blocked slots.now)) }
 {
     for slot in slots {
         if is_choice(slots, slot, target, blocked, n) {

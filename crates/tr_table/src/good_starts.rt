@@ -149,7 +149,8 @@ fn have_distinct_ids(groups: &[GroupStart]) -> bool
 
 /// Whether no id of the threads stands twice among them or is that of a thread of these groups.
 fn are_new(threads: &[(u32, SigSet)], groups: &[GroupStart]) -> bool
-    ensures { no_repeat (map (λ t. t.0) threads.now ++ ids_started groups.now) ≡ (result && no_repeat (ids_started groups.now)) }
+    ensures { no_repeat (map (λ t. t.0) threads.now ++ ids_started groups.now)
+        ≡ (result && no_repeat (ids_started groups.now)) }
 {
     let mut rest = threads;
     while let [thread, later @ ..] = rest {

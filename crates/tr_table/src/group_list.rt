@@ -139,7 +139,8 @@ impl Groups {
 
     /// The group with the id goes where it has no threads.
     pub(crate) fn drop_empty(&mut self, threads: &Threads, tgid: u32)
-        ensures { self.new ≡ filter (λ x. not (x.tgid == tgid) || list_any (in_group tgid) threads.now) self.old }
+        ensures { self.new
+            ≡ filter (λ x. not (x.tgid == tgid) || list_any (in_group tgid) threads.now) self.old }
     {
         if threads.has_member(tgid) {
             return;

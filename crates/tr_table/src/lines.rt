@@ -48,9 +48,11 @@ pub(crate) fn rewrite<K: Eq + Hash + Drop, V: Drop>(
     value: Option<V>,
 )
     requires { is_some (get K.eq map.old key.now) ≡ true }
-    ensures get { (k : K) → get K.eq map.new k ≡ (if K.eq key.now k then value else get K.eq map.old k) }
+    ensures get { (k : K)
+        → get K.eq map.new k ≡ (if K.eq key.now k then value else get K.eq map.old k) }
     ensures spare { spare map.old ≤ spare map.new }
-    ensures places { index_map_len map.old + spare map.old ≤ index_map_len map.new + spare map.new + (if is_some value then 0 else 1) }
+    ensures places { index_map_len map.old + spare map.old
+        ≤ index_map_len map.new + spare map.new + (if is_some value then 0 else 1) }
 {
     match value {
         Some(value) => {
@@ -67,7 +69,8 @@ pub(crate) fn rewrite<K: Eq + Hash + Drop, V: Drop>(
 /// Writes the value of a key, which may be new. It takes no memory.
 pub(crate) fn write<K: Eq + Hash + Copy, V: Copy>(map: &mut IndexMap<K, V>, key: &K, value: V)
     requires { 0 < spare map.old }
-    ensures get { (k : K) → get K.eq map.new k ≡ (if K.eq key.now k then Some value else get K.eq map.old k) }
+    ensures get { (k : K)
+        → get K.eq map.new k ≡ (if K.eq key.now k then Some value else get K.eq map.old k) }
     ensures spare { spare map.old ≤ spare map.new + 1 }
     ensures places { index_map_len map.old + spare map.old ≤ index_map_len map.new + spare map.new }
 {
@@ -90,10 +93,19 @@ fn key_of(waiting: &Waiting) -> LineKey
 /// Puts an instance last in its line.
 pub(crate) fn enter_line(lines: &mut IndexMap<LineKey, Line>, waiting: &Waiting)
     requires spare { 0 < spare lines.old }
-    requires few { (l : Line) → line_at lines.old waiting.now.target waiting.now.instance.sig ≡ Some l → l.count + 1 < 2 ^ 64 }
-    ensures get { (q : Target) (s : ℕ) → line_at lines.new q s ≡ (if is_key waiting.now q s then Some (longer waiting.now.instance.n (line_at lines.old waiting.now.target waiting.now.instance.sig)) else line_at lines.old q s) }
+    requires few { (l : Line)
+        → line_at lines.old waiting.now.target waiting.now.instance.sig ≡ Some l
+        → l.count + 1 < 2 ^ 64 }
+    ensures get { (q : Target) (s : ℕ)
+        → line_at lines.new q s
+        ≡ (if is_key waiting.now q s
+        then Some
+        (longer waiting.now.instance.n
+        (line_at lines.old waiting.now.target waiting.now.instance.sig))
+        else line_at lines.old q s) }
     ensures spare { spare lines.old ≤ spare lines.new + 1 }
-    ensures places { index_map_len lines.old + spare lines.old ≤ index_map_len lines.new + spare lines.new }
+    ensures places { index_map_len lines.old + spare lines.old
+        ≤ index_map_len lines.new + spare lines.new }
 {
     let key = key_of(waiting);
     let line = longer(lines.get(&key).copied(), waiting.instance.n);
@@ -116,11 +128,19 @@ fn longer(line: Option<Line>, n: u64) -> Line
 /// Puts an instance last in its queue.
 pub(crate) fn enter_queue(queues: &mut IndexMap<Target, Queue>, waiting: &Waiting)
     requires spare { 0 < spare queues.old }
-    requires few { (x : Queue) → queue_at queues.old waiting.now.target ≡ Some x → x.count + 1 < 2 ^ 64 }
-    ensures own { (q : Target) (is : List Instance) → same_target waiting.now.target q ≡ true → IsQueue (queue_at queues.old waiting.now.target) is → IsQueue (queue_at queues.new q) (is ++ waiting.now.instance ∷ []) }
-    ensures others { (q : Target) → same_target waiting.now.target q ≡ false → queue_at queues.new q ≡ queue_at queues.old q }
+    requires few { (x : Queue)
+        → queue_at queues.old waiting.now.target ≡ Some x
+        → x.count + 1 < 2 ^ 64 }
+    ensures own { (q : Target) (is : List Instance)
+        → same_target waiting.now.target q ≡ true
+        → IsQueue (queue_at queues.old waiting.now.target) is
+        → IsQueue (queue_at queues.new q) (is ++ waiting.now.instance ∷ []) }
+    ensures others { (q : Target)
+        → same_target waiting.now.target q ≡ false
+        → queue_at queues.new q ≡ queue_at queues.old q }
     ensures spare { spare queues.old ≤ spare queues.new + 1 }
-    ensures places { index_map_len queues.old + spare queues.old ≤ index_map_len queues.new + spare queues.new }
+    ensures places { index_map_len queues.old + spare queues.old
+        ≤ index_map_len queues.new + spare queues.new }
 {
     let queue = wider(queues.get(&waiting.target).copied(), &waiting.instance);
     write(queues, &waiting.target, queue);
@@ -129,7 +149,9 @@ pub(crate) fn enter_queue(queues: &mut IndexMap<Target, Queue>, waiting: &Waitin
 /// A queue with one more instance, which comes last.
 fn wider(queue: Option<Queue>, instance: &Instance) -> Queue
     requires { (x : Queue) → queue ≡ Some x → x.count + 1 < 2 ^ 64 }
-    ensures { (is : List Instance) → IsQueue queue is → IsQueue (Some result) (is ++ instance.now ∷ []) }
+    ensures { (is : List Instance)
+        → IsQueue queue is
+        → IsQueue (Some result) (is ++ instance.now ∷ []) }
 {
     match queue {
         Some(queue) => Queue {
@@ -157,7 +179,10 @@ fn first_of_line(slots: &[Slot], target: Target, signal: Signal) -> Option<u64>
 
 /// What is left of a line where an instance goes; `after` are the slots after that of the instance.
 fn left_of(line: &Line, waiting: &Waiting, after: &[Slot]) -> Option<Line>
-    ensures { (before : List Waiting) → IsSorted (before ++ waiting.now ∷ line_in waiting.now after.now) → Some line.now ≡ line_of (before ++ waiting.now ∷ line_in waiting.now after.now) → result ≡ line_of (before ++ line_in waiting.now after.now) }
+    ensures { (before : List Waiting)
+        → IsSorted (before ++ waiting.now ∷ line_in waiting.now after.now)
+        → Some line.now ≡ line_of (before ++ waiting.now ∷ line_in waiting.now after.now)
+        → result ≡ line_of (before ++ line_in waiting.now after.now) }
 {
     if line.count <= 1 {
         return None;
@@ -180,11 +205,20 @@ pub(crate) fn leave_line(
     after: &[Slot],
 ) -> bool
     requires { is_some (line_at lines.old waiting.now.target waiting.now.instance.sig) ≡ true }
-    ensures others { (q : Target) (s : ℕ) → is_key waiting.now q s ≡ false → line_at lines.new q s ≡ line_at lines.old q s }
-    ensures own { (q : Target) (s : ℕ) (before : List Waiting) → is_key waiting.now q s ≡ true → IsSorted (before ++ waiting.now ∷ line_in waiting.now after.now) → line_at lines.old waiting.now.target waiting.now.instance.sig ≡ line_of (before ++ waiting.now ∷ line_in waiting.now after.now) → line_at lines.new q s ≡ line_of (before ++ line_in waiting.now after.now) }
-    ensures answer { result ≡ is_some (line_at lines.new waiting.now.target waiting.now.instance.sig) }
+    ensures others { (q : Target) (s : ℕ)
+        → is_key waiting.now q s ≡ false
+        → line_at lines.new q s ≡ line_at lines.old q s }
+    ensures own { (q : Target) (s : ℕ) (before : List Waiting)
+        → is_key waiting.now q s ≡ true
+        → IsSorted (before ++ waiting.now ∷ line_in waiting.now after.now)
+        → line_at lines.old waiting.now.target waiting.now.instance.sig
+        ≡ line_of (before ++ waiting.now ∷ line_in waiting.now after.now)
+        → line_at lines.new q s ≡ line_of (before ++ line_in waiting.now after.now) }
+    ensures answer { result
+        ≡ is_some (line_at lines.new waiting.now.target waiting.now.instance.sig) }
     ensures spare { spare lines.old ≤ spare lines.new }
-    ensures places { index_map_len lines.old + spare lines.old ≤ index_map_len lines.new + spare lines.new + 1 }
+    ensures places { index_map_len lines.old + spare lines.old
+        ≤ index_map_len lines.new + spare lines.new + 1 }
 {
     let key = key_of(waiting);
     let Some(line) = lines.get(&key).copied() else {
@@ -199,10 +233,17 @@ pub(crate) fn leave_line(
 /// Takes an instance out of its queue; `stays` says whether others of its signal wait there.
 pub(crate) fn leave_queue(queues: &mut IndexMap<Target, Queue>, waiting: &Waiting, stays: bool)
     requires { is_some (queue_at queues.old waiting.now.target) ≡ true }
-    ensures own { (q : Target) (before after : List Instance) → same_target waiting.now.target q ≡ true → stays ≡ is_waiting waiting.now.instance.sig (before ++ after) → IsQueue (queue_at queues.old waiting.now.target) (before ++ waiting.now.instance ∷ after) → IsQueue (queue_at queues.new q) (before ++ after) }
-    ensures others { (q : Target) → same_target waiting.now.target q ≡ false → queue_at queues.new q ≡ queue_at queues.old q }
+    ensures own { (q : Target) (before after : List Instance)
+        → same_target waiting.now.target q ≡ true
+        → stays ≡ is_waiting waiting.now.instance.sig (before ++ after)
+        → IsQueue (queue_at queues.old waiting.now.target) (before ++ waiting.now.instance ∷ after)
+        → IsQueue (queue_at queues.new q) (before ++ after) }
+    ensures others { (q : Target)
+        → same_target waiting.now.target q ≡ false
+        → queue_at queues.new q ≡ queue_at queues.old q }
     ensures spare { spare queues.old ≤ spare queues.new }
-    ensures places { index_map_len queues.old + spare queues.old ≤ index_map_len queues.new + spare queues.new + 1 }
+    ensures places { index_map_len queues.old + spare queues.old
+        ≤ index_map_len queues.new + spare queues.new + 1 }
 {
     if let Some(queue) = queues.get(&waiting.target).copied() {
         let left = narrower(&queue, waiting.instance.sig, stays);
@@ -212,7 +253,11 @@ pub(crate) fn leave_queue(queues: &mut IndexMap<Target, Queue>, waiting: &Waitin
 
 /// A queue that has lost an instance of the signal; `stays` says whether it has others of it.
 fn narrower(queue: &Queue, signal: Signal, stays: bool) -> Option<Queue>
-    ensures { (i : Instance) (before after : List Instance) → i.sig ≡ signal → stays ≡ is_waiting signal (before ++ after) → IsQueue (Some queue.now) (before ++ i ∷ after) → IsQueue result (before ++ after) }
+    ensures { (i : Instance) (before after : List Instance)
+        → i.sig ≡ signal
+        → stays ≡ is_waiting signal (before ++ after)
+        → IsQueue (Some queue.now) (before ++ i ∷ after)
+        → IsQueue result (before ++ after) }
 {
     if queue.count <= 1 {
         return None;
@@ -240,8 +285,10 @@ pub(crate) fn enter_all(
     ensures made { AreLines lines.new queues.new (standing slots.now) }
     ensures line_spare { spare lines.old ≤ spare lines.new + length (standing slots.now) }
     ensures queue_spare { spare queues.old ≤ spare queues.new + length (standing slots.now) }
-    ensures line_places { index_map_len lines.old + spare lines.old ≤ index_map_len lines.new + spare lines.new }
-    ensures queue_places { index_map_len queues.old + spare queues.old ≤ index_map_len queues.new + spare queues.new }
+    ensures line_places { index_map_len lines.old + spare lines.old
+        ≤ index_map_len lines.new + spare lines.new }
+    ensures queue_places { index_map_len queues.old + spare queues.old
+        ≤ index_map_len queues.new + spare queues.new }
 {
     for slot in slots {
         if !slot.gone {

@@ -41,9 +41,17 @@ impl Threads {
     /// The threads of a group but that with the id begin to leave, since that has called execve(2).
     pub(crate) fn leave_for_exec(&mut self, tgid: u32, id: u32, end: &End, ended: &mut Vec<Ending>)
         requires { vec_len ended.old + held_count self.old ≤ vec_capacity ended.old }
-        ensures threads { self.new ≡ map (at_group tgid (begun_to_leave_by_exec id end.now)) self.old }
-        ensures ended { ended.new.items ≡ ended.old.items ++ flat_map (ended_by_change Flushed (at_group tgid (begun_to_leave_by_exec id end.now))) self.old }
-        ensures len { vec_len ended.new ≡ vec_len ended.old + length (flat_map (ended_by_change Flushed (at_group tgid (begun_to_leave_by_exec id end.now))) self.old) }
+        ensures threads { self.new
+            ≡ map (at_group tgid (begun_to_leave_by_exec id end.now)) self.old }
+        ensures ended { ended.new.items
+            ≡ ended.old.items
+            ++ flat_map
+            (ended_by_change Flushed (at_group tgid (begun_to_leave_by_exec id end.now))) self.old }
+        ensures len { vec_len ended.new
+            ≡ vec_len ended.old
+            + length (flat_map
+            (ended_by_change Flushed
+            (at_group tgid (begun_to_leave_by_exec id end.now))) self.old) }
         ensures capacity { vec_capacity ended.new ≡ vec_capacity ended.old }
     {
         log_leaving_for_exec(ended, self, tgid, id, end);
@@ -62,7 +70,8 @@ fn left(kill: bool, end: &End, thread: &Thread) -> Thread
 fn push_end(ended: &mut Vec<Ending>, before: &Option<Instance>, after: &Option<Instance>)
     requires { vec_len ended.old + bool_to_nat (is_some before.now) ≤ vec_capacity ended.old }
     ensures items { ended.new.items ≡ ended.old.items ++ ended_hold Flushed before.now after.now }
-    ensures len { vec_len ended.new ≡ vec_len ended.old + length (ended_hold Flushed before.now after.now) }
+    ensures len { vec_len ended.new
+        ≡ vec_len ended.old + length (ended_hold Flushed before.now after.now) }
     ensures capacity { vec_capacity ended.new ≡ vec_capacity ended.old }
 {
     match (before, after) {
@@ -77,9 +86,13 @@ fn push_end(ended: &mut Vec<Ending>, before: &Option<Instance>, after: &Option<I
 /// Appends what a thread holds, and gives up as it begins to leave.
 #[tactic(auto, using(crate::proofs::Helds::few_ends))]
 fn log_left(ended: &mut Vec<Ending>, thread: Option<&Thread>, kill: bool, end: &End)
-    requires { vec_len ended.old + bool_to_nat (is_some (held_by (option_copied thread))) ≤ vec_capacity ended.old }
-    ensures items { ended.new.items ≡ ended.old.items ++ ends_of (begun_to_leave kill end.now) (option_copied thread.entry) }
-    ensures len { vec_len ended.new ≡ vec_len ended.old + length (ends_of (begun_to_leave kill end.now) (option_copied thread.entry)) }
+    requires { vec_len ended.old + bool_to_nat (is_some (held_by (option_copied thread)))
+        ≤ vec_capacity ended.old }
+    ensures items { ended.new.items
+        ≡ ended.old.items ++ ends_of (begun_to_leave kill end.now) (option_copied thread.entry) }
+    ensures len { vec_len ended.new
+        ≡ vec_len ended.old
+        + length (ends_of (begun_to_leave kill end.now) (option_copied thread.entry)) }
     ensures capacity { vec_capacity ended.new ≡ vec_capacity ended.old }
 {
     if let Some(thread) = thread {
@@ -101,8 +114,14 @@ pub(crate) fn log_leaving(
     end: &End,
 )
     requires { vec_len ended.old + held_count threads.now ≤ vec_capacity ended.old }
-    ensures items { ended.new.items ≡ ended.old.items ++ flat_map (ended_by_change Flushed (at_group tgid (begun_to_leave kill end.now))) threads.now }
-    ensures len { vec_len ended.new ≡ vec_len ended.old + length (flat_map (ended_by_change Flushed (at_group tgid (begun_to_leave kill end.now))) threads.now) }
+    ensures items { ended.new.items
+        ≡ ended.old.items
+        ++ flat_map
+        (ended_by_change Flushed (at_group tgid (begun_to_leave kill end.now))) threads.now }
+    ensures len { vec_len ended.new
+        ≡ vec_len ended.old
+        + length (flat_map
+        (ended_by_change Flushed (at_group tgid (begun_to_leave kill end.now))) threads.now) }
     ensures capacity { vec_capacity ended.new ≡ vec_capacity ended.old }
 {
     let ids = threads.member_ids(tgid);
@@ -123,9 +142,14 @@ fn left_for_exec(id: u32, end: &End, thread: &Thread) -> Thread
 /// Appends what a thread holds, and gives up as the one with this id calls execve(2).
 #[tactic(auto, using(crate::proofs::Helds::few_ends))]
 fn log_left_for_exec(ended: &mut Vec<Ending>, thread: Option<&Thread>, id: u32, end: &End)
-    requires { vec_len ended.old + bool_to_nat (is_some (held_by (option_copied thread))) ≤ vec_capacity ended.old }
-    ensures items { ended.new.items ≡ ended.old.items ++ ends_of (begun_to_leave_by_exec id end.now) (option_copied thread.entry) }
-    ensures len { vec_len ended.new ≡ vec_len ended.old + length (ends_of (begun_to_leave_by_exec id end.now) (option_copied thread.entry)) }
+    requires { vec_len ended.old + bool_to_nat (is_some (held_by (option_copied thread)))
+        ≤ vec_capacity ended.old }
+    ensures items { ended.new.items
+        ≡ ended.old.items
+        ++ ends_of (begun_to_leave_by_exec id end.now) (option_copied thread.entry) }
+    ensures len { vec_len ended.new
+        ≡ vec_len ended.old
+        + length (ends_of (begun_to_leave_by_exec id end.now) (option_copied thread.entry)) }
     ensures capacity { vec_capacity ended.new ≡ vec_capacity ended.old }
 {
     if let Some(thread) = thread {
@@ -141,8 +165,14 @@ fn log_left_for_exec(ended: &mut Vec<Ending>, thread: Option<&Thread>, id: u32, 
 #[tactic(auto, using(crate::proofs::Helds::held_drop, crate::proofs::Helds::few_ends))]
 fn log_leaving_for_exec(ended: &mut Vec<Ending>, threads: &Threads, tgid: u32, id: u32, end: &End)
     requires { vec_len ended.old + held_count threads.now ≤ vec_capacity ended.old }
-    ensures items { ended.new.items ≡ ended.old.items ++ flat_map (ended_by_change Flushed (at_group tgid (begun_to_leave_by_exec id end.now))) threads.now }
-    ensures len { vec_len ended.new ≡ vec_len ended.old + length (flat_map (ended_by_change Flushed (at_group tgid (begun_to_leave_by_exec id end.now))) threads.now) }
+    ensures items { ended.new.items
+        ≡ ended.old.items
+        ++ flat_map
+        (ended_by_change Flushed (at_group tgid (begun_to_leave_by_exec id end.now))) threads.now }
+    ensures len { vec_len ended.new
+        ≡ vec_len ended.old
+        + length (flat_map
+        (ended_by_change Flushed (at_group tgid (begun_to_leave_by_exec id end.now))) threads.now) }
     ensures capacity { vec_capacity ended.new ≡ vec_capacity ended.old }
 {
     let ids = threads.member_ids(tgid);

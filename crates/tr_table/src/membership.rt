@@ -61,13 +61,16 @@ impl Threads {
 
     /// Whether each thread of the group but that with the id is dead.
     pub(crate) fn others_dead(&self, tgid: u32, id: u32) -> bool
-        ensures { result ≡ list_all (λ t. t.id == id || is_dead t.life) (filter (in_group tgid) self.now) }
+        ensures { result
+            ≡ list_all (λ t. t.id == id || is_dead t.life) (filter (in_group tgid) self.now) }
     {
         all_are_or_are_dead(self, self.rosters.ids(tgid), id)
     }
 
     pub(crate) fn some_blocks(&self, tgid: u32, signal: Signal) -> bool
-        ensures { result ≡ list_any (λ t. is_live t.life && has t.mask signal) (filter (in_group tgid) self.now) }
+        ensures { result
+            ≡ list_any (λ t. is_live t.life && has t.mask signal)
+            (filter (in_group tgid) self.now) }
     {
         some_block(self, self.rosters.ids(tgid), signal)
     }
@@ -75,7 +78,8 @@ impl Threads {
 
 /// Whether the thread of an id is the one with the other, or dead.
 fn is_or_is_dead(threads: &Threads, n: u32, id: u32) -> bool
-    ensures { result ≡ option_map_or (λ t. t.id == id || is_dead t.life) (thread_in threads.now n) true }
+    ensures { result
+        ≡ option_map_or (λ t. t.id == id || is_dead t.life) (thread_in threads.now n) true }
 {
     match threads.find(n) {
         Some(thread) => thread.id == id || thread.life.is_dead(),
@@ -85,7 +89,8 @@ fn is_or_is_dead(threads: &Threads, n: u32, id: u32) -> bool
 
 /// Whether the thread of an id is live and blocks the signal.
 fn blocks(threads: &Threads, n: u32, signal: Signal) -> bool
-    ensures { result ≡ option_map_or (λ t. is_live t.life && has t.mask signal) (thread_in threads.now n) false }
+    ensures { result
+        ≡ option_map_or (λ t. is_live t.life && has t.mask signal) (thread_in threads.now n) false }
 {
     match threads.find(n) {
         Some(thread) => thread.life.is_live() && thread.mask.has(signal),
@@ -94,13 +99,19 @@ fn blocks(threads: &Threads, n: u32, signal: Signal) -> bool
 }
 
 fn all_are_or_are_dead(threads: &Threads, ids: &[u32], id: u32) -> bool
-    ensures { result ≡ list_all (λ n. option_map_or (λ t. t.id == id || is_dead t.life) (thread_in threads.now n) true) ids.now }
+    ensures { result
+        ≡ list_all
+        (λ n. option_map_or (λ t. t.id == id || is_dead t.life)
+        (thread_in threads.now n) true) ids.now }
 {
     ids.iter().all(|n| is_or_is_dead(threads, *n, id))
 }
 
 fn some_block(threads: &Threads, ids: &[u32], signal: Signal) -> bool
-    ensures { result ≡ list_any (λ n. option_map_or (λ t. is_live t.life && has t.mask signal) (thread_in threads.now n) false) ids.now }
+    ensures { result
+        ≡ list_any
+        (λ n. option_map_or (λ t. is_live t.life && has t.mask signal)
+        (thread_in threads.now n) false) ids.now }
 {
     ids.iter().any(|n| blocks(threads, *n, signal))
 }

@@ -53,7 +53,8 @@ impl Multiset {
     /// Counts a number once more.
     fn insert(&mut self, n: u32)
         requires { length self.old.numbers < self.old.places }
-        ensures counted { (m : ℕ) → occurs m self.new.numbers ≡ occurs m self.old.numbers + bool_to_nat (n == m) }
+        ensures counted { (m : ℕ)
+            → occurs m self.new.numbers ≡ occurs m self.old.numbers + bool_to_nat (n == m) }
         ensures sized { length self.new.numbers ≡ length self.old.numbers + 1 }
         ensures places { self.new.places ≡ self.old.places }
     {
@@ -64,7 +65,8 @@ impl Multiset {
     /// Counts a number once less.
     fn remove(&mut self, n: u32)
         requires { 1 ≤ occurs n self.old.numbers }
-        ensures counted { (m : ℕ) → occurs m self.new.numbers + bool_to_nat (n == m) ≡ occurs m self.old.numbers }
+        ensures counted { (m : ℕ)
+            → occurs m self.new.numbers + bool_to_nat (n == m) ≡ occurs m self.old.numbers }
         ensures sized { length self.new.numbers + 1 ≡ length self.old.numbers }
         ensures places { self.new.places ≡ self.old.places }
     {
@@ -77,9 +79,13 @@ impl Multiset {
     #[inline(always)]
     pub(crate) fn recount(&mut self, before: Option<u32>, after: Option<u32>)
         requires counted { (m : ℕ) → bool_to_nat (is_number m before) ≤ occurs m self.old.numbers }
-        requires room { length self.old.numbers + bool_to_nat (is_some after) ≤ self.old.places + bool_to_nat (is_some before) }
-        ensures counted { (m : ℕ) → occurs m self.new.numbers + bool_to_nat (is_number m before) ≡ occurs m self.old.numbers + bool_to_nat (is_number m after) }
-        ensures sized { length self.new.numbers + bool_to_nat (is_some before) ≡ length self.old.numbers + bool_to_nat (is_some after) }
+        requires room { length self.old.numbers + bool_to_nat (is_some after)
+            ≤ self.old.places + bool_to_nat (is_some before) }
+        ensures counted { (m : ℕ)
+            → occurs m self.new.numbers + bool_to_nat (is_number m before)
+            ≡ occurs m self.old.numbers + bool_to_nat (is_number m after) }
+        ensures sized { length self.new.numbers + bool_to_nat (is_some before)
+            ≡ length self.old.numbers + bool_to_nat (is_some after) }
         ensures places { self.new.places ≡ self.old.places }
     {
         if before == after {

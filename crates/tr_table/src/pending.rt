@@ -149,7 +149,8 @@ impl Pending {
         requires room { 0 < self.old.room }
         requires last { AllBelow waiting.now.instance.n (standing self.old.slots.items) }
         ensures kept { IsPending self.new }
-        ensures waiting { standing self.new.slots.items ≡ standing self.old.slots.items ++ waiting.now ∷ [] }
+        ensures waiting { standing self.new.slots.items
+            ≡ standing self.old.slots.items ++ waiting.now ∷ [] }
         ensures room { self.new.room + 1 ≡ self.old.room }
     {
         trim(&mut self.slots);
@@ -169,7 +170,9 @@ impl Pending {
         requires within { place < vec_len self.old.slots }
         requires there { (s : Slot) → (get_or self.old.slots.items place s).gone ≡ false }
         ensures kept { IsPending self.new }
-        ensures slots { (s : Slot) → self.new.slots.items ≡ set self.old.slots.items place (emptied (get_or self.old.slots.items place s)) }
+        ensures slots { (s : Slot)
+            → self.new.slots.items
+            ≡ set self.old.slots.items place (emptied (get_or self.old.slots.items place s)) }
         ensures room { self.new.room ≡ self.old.room }
     {
         let slot = &self.slots[place];
@@ -184,7 +187,8 @@ impl Pending {
         requires kept { IsPending self.old }
         ensures taken { result ≡ instance_in (standing self.old.slots.items) n }
         ensures kept { IsPending self.new }
-        ensures waiting { standing self.new.slots.items ≡ without_instance n (standing self.old.slots.items) }
+        ensures waiting { standing self.new.slots.items
+            ≡ without_instance n (standing self.old.slots.items) }
         ensures room { self.new.room ≡ self.old.room }
     {
         let place = place_of(&self.slots, n)?;
@@ -201,7 +205,8 @@ impl Pending {
         requires { IsPending self.old }
         ensures taken { result ≡ first_of signal (queue_in target (standing self.old.slots.items)) }
         ensures kept { IsPending self.new }
-        ensures waiting { standing self.new.slots.items ≡ without_one target signal (standing self.old.slots.items) }
+        ensures waiting { standing self.new.slots.items
+            ≡ without_one target signal (standing self.old.slots.items) }
         ensures room { self.new.room ≡ self.old.room }
     {
         let key = LineKey {
@@ -241,7 +246,8 @@ impl Pending {
     pub(crate) fn reaim(&mut self, from: u32, to: u32)
         requires { IsPending self.old }
         ensures kept { IsPending self.new }
-        ensures waiting { standing self.new.slots.items ≡ map (retargeted from to) (standing self.old.slots.items) }
+        ensures waiting { standing self.new.slots.items
+            ≡ map (retargeted from to) (standing self.old.slots.items) }
         ensures room { self.new.room ≡ self.old.room }
     {
         if self.queue_len(Target::Thread(from)) == 0 {
@@ -268,7 +274,10 @@ impl Pending {
     /// Whether a thread's own queue of the group may hold what is flushed.
     fn may_thread_hold(&self, threads: &[Thread], tgid: u32, flush: &Flush) -> bool
         requires { IsPending self.now }
-        ensures { result ≡ false → list_any (λ t. t.group == tgid && holds flush.now (target.Thread t.id) (standing self.now.slots.items)) threads.now ≡ false }
+        ensures { result ≡ false
+            → list_any (λ t. t.group == tgid
+            && holds flush.now (target.Thread t.id) (standing self.now.slots.items)) threads.now
+            ≡ false }
     {
         for thread in threads {
             if thread.group == tgid && self.may_hold(Target::Thread(thread.id), flush) {
@@ -281,7 +290,9 @@ impl Pending {
     /// Whether a queue of the group may hold what is flushed.
     fn may_group_hold(&self, threads: &Threads, tgid: u32, flush: &Flush) -> bool
         requires { IsPending self.now }
-        ensures { result ≡ false → list_any (is_flushed threads.now tgid flush.now) (standing self.now.slots.items) ≡ false }
+        ensures { result ≡ false
+            → list_any (is_flushed threads.now tgid flush.now) (standing self.now.slots.items)
+            ≡ false }
     {
         // The target of no thread has the owner 0.
         if tgid == 0 || self.may_hold(Target::Group(tgid), flush) {
@@ -293,7 +304,8 @@ impl Pending {
     /// Whether something may be picked; where not, none is.
     fn may_pick(&self, threads: &Threads, picked: &Picked) -> bool
         requires { IsPending self.now }
-        ensures { result ≡ false → list_any (is_picked threads.now picked.now) (standing self.now.slots.items) ≡ false }
+        ensures { result ≡ false
+            → list_any (is_picked threads.now picked.now) (standing self.now.slots.items) ≡ false }
     {
         match picked {
             Picked::Group(tgid, flush) => self.may_group_hold(threads, *tgid, flush),
@@ -305,12 +317,20 @@ impl Pending {
     /// Takes out what is picked, and appends it to `ended` as flushed, in order of acceptance.
     pub(crate) fn flush(&mut self, threads: &Threads, picked: &Picked, ended: &mut Vec<Ending>)
         requires kept { IsPending self.old }
-        requires places { vec_len ended.old + length (standing self.old.slots.items) ≤ vec_capacity ended.old }
+        requires places { vec_len ended.old + length (standing self.old.slots.items)
+            ≤ vec_capacity ended.old }
         ensures kept { IsPending self.new }
-        ensures waiting { standing self.new.slots.items ≡ filter (λ q. not (is_picked threads.now picked.now q)) (standing self.old.slots.items) }
+        ensures waiting { standing self.new.slots.items
+            ≡ filter (λ q. not (is_picked threads.now picked.now q))
+            (standing self.old.slots.items) }
         ensures room { self.new.room ≡ self.old.room }
-        ensures ended { ended.new.items ≡ ended.old.items ++ map (ending_of Flushed) (filter (is_picked threads.now picked.now) (standing self.old.slots.items)) }
-        ensures len { vec_len ended.new ≡ vec_len ended.old + length (filter (is_picked threads.now picked.now) (standing self.old.slots.items)) }
+        ensures ended { ended.new.items
+            ≡ ended.old.items
+            ++ map (ending_of Flushed)
+            (filter (is_picked threads.now picked.now) (standing self.old.slots.items)) }
+        ensures len { vec_len ended.new
+            ≡ vec_len ended.old
+            + length (filter (is_picked threads.now picked.now) (standing self.old.slots.items)) }
         ensures capacity { vec_capacity ended.new ≡ vec_capacity ended.old }
     {
         if self.may_pick(threads, picked) {
@@ -323,7 +343,9 @@ impl Pending {
     pub(crate) fn drop_picked(&mut self, threads: &Threads, picked: &Picked)
         requires { IsPending self.old }
         ensures kept { IsPending self.new }
-        ensures waiting { standing self.new.slots.items ≡ filter (λ q. not (is_picked threads.now picked.now q)) (standing self.old.slots.items) }
+        ensures waiting { standing self.new.slots.items
+            ≡ filter (λ q. not (is_picked threads.now picked.now q))
+            (standing self.old.slots.items) }
         ensures room { self.new.room ≡ self.old.room }
     {
         for place in 0..self.slots.len() {

@@ -89,8 +89,13 @@ pub(crate) fn log_picked(
     picked: &Picked,
 )
     requires { vec_len ended.old + length (standing slots.now) ≤ vec_capacity ended.old }
-    ensures items { ended.new.items ≡ ended.old.items ++ map (ending_of Flushed) (filter (is_picked threads.now picked.now) (standing slots.now)) }
-    ensures len { vec_len ended.new ≡ vec_len ended.old + length (filter (is_picked threads.now picked.now) (standing slots.now)) }
+    ensures items { ended.new.items
+        ≡ ended.old.items
+        ++ map (ending_of Flushed)
+        (filter (is_picked threads.now picked.now) (standing slots.now)) }
+    ensures len { vec_len ended.new
+        ≡ vec_len ended.old
+        + length (filter (is_picked threads.now picked.now) (standing slots.now)) }
     ensures capacity { vec_capacity ended.new ≡ vec_capacity ended.old }
 {
     for slot in slots {
@@ -111,8 +116,12 @@ pub(crate) fn note_picked(
     gone: &mut Vec<u64>,
 ) -> u64
     requires { vec_len gone.old + length (standing slots.now) ≤ vec_capacity gone.old }
-    ensures count { result ≡ length (filter (is_picked threads.now picked.now) (standing slots.now)) }
-    ensures named { gone.new.items ≡ gone.old.items ++ map (λ q. q.instance.n) (filter (is_picked threads.now picked.now) (standing slots.now)) }
+    ensures count { result
+        ≡ length (filter (is_picked threads.now picked.now) (standing slots.now)) }
+    ensures named { gone.new.items
+        ≡ gone.old.items
+        ++ map (λ q. q.instance.n)
+        (filter (is_picked threads.now picked.now) (standing slots.now)) }
     ensures capacity { vec_capacity gone.new ≡ vec_capacity gone.old }
 {
     let mut count = 0;

@@ -30,8 +30,13 @@ impl Table {
         requires room { 0 < self.old.room }
         requires accepted { instance.now.n ≤ self.old.table.accepted }
         requires last { AllBelow instance.now.n self.old.table.waiting }
-        ensures answer { result ≡ (if merges instance.now.sig (queue self.old.table target) then put.Merged else put.Queued) }
-        ensures table { self.new.table ≡ record self.old.table { waiting = after_put target instance.now self.old.table.waiting } }
+        ensures answer { result
+            ≡ (if merges instance.now.sig
+            (queue self.old.table target) then put.Merged else put.Queued) }
+        ensures table { self.new.table
+            ≡ record self.old.table {
+              waiting = after_put target instance.now self.old.table.waiting;
+            } }
         ensures room { self.old.room ≤ self.new.room + 1 }
     {
         let signal = instance.sig;
@@ -48,7 +53,8 @@ impl Table {
     /// Takes the first instance of a signal out of the target's queue. `None` where none waits there.
     pub fn take_sig(&mut self, target: Target, signal: Signal) -> Option<Instance>
         ensures taken { result ≡ first_of signal (queue self.old.table target) }
-        ensures table { self.new.table ≡ record self.old.table { waiting = without_one target signal self.old.table.waiting } }
+        ensures table { self.new.table
+            ≡ record self.old.table { waiting = without_one target signal self.old.table.waiting } }
         ensures room { self.old.room ≤ self.new.room }
     {
         self.pending.take_first(target, signal)
@@ -59,8 +65,13 @@ impl Table {
     pub fn flush_set(&mut self, target: Target, set: SigSet, gone: &mut Vec<u64>) -> u64
         requires { vec_len gone.old + length self.old.table.waiting ≤ vec_capacity gone.old }
         ensures count { result ≡ length (filter (is_of target set) self.old.table.waiting) }
-        ensures named { gone.new.items ≡ gone.old.items ++ map (λ q. q.instance.n) (filter (is_of target set) self.old.table.waiting) }
-        ensures table { self.new.table ≡ record self.old.table { waiting = filter (λ q. not (is_of target set q)) self.old.table.waiting } }
+        ensures named { gone.new.items
+            ≡ gone.old.items
+            ++ map (λ q. q.instance.n) (filter (is_of target set) self.old.table.waiting) }
+        ensures table { self.new.table
+            ≡ record self.old.table {
+              waiting = filter (λ q. not (is_of target set q)) self.old.table.waiting;
+            } }
         ensures room { self.old.room ≤ self.new.room }
         ensures capacity { vec_capacity gone.new ≡ vec_capacity gone.old }
     {
@@ -73,10 +84,18 @@ impl Table {
     /// Flushes the target's queue, and appends what it held to `ended`, in order of acceptance.
     pub fn flush_queue(&mut self, target: Target, ended: &mut Vec<Ending>)
         requires { vec_len ended.old + length self.old.table.waiting ≤ vec_capacity ended.old }
-        ensures table { self.new.table ≡ record self.old.table { waiting = filter (λ q. not (same_target target q.target)) self.old.table.waiting } }
+        ensures table { self.new.table
+            ≡ record self.old.table {
+              waiting = filter (λ q. not (same_target target q.target)) self.old.table.waiting;
+            } }
         ensures room { self.old.room ≤ self.new.room }
-        ensures ended { ended.new.items ≡ ended.old.items ++ map (ending_of Flushed) (filter (λ q. same_target target q.target) self.old.table.waiting) }
-        ensures len { vec_len ended.new ≡ vec_len ended.old + length (filter (λ q. same_target target q.target) self.old.table.waiting) }
+        ensures ended { ended.new.items
+            ≡ ended.old.items
+            ++ map (ending_of Flushed)
+            (filter (λ q. same_target target q.target) self.old.table.waiting) }
+        ensures len { vec_len ended.new
+            ≡ vec_len ended.old
+            + length (filter (λ q. same_target target q.target) self.old.table.waiting) }
         ensures capacity { vec_capacity ended.new ≡ vec_capacity ended.old }
     {
         self.pending

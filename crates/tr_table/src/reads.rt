@@ -71,7 +71,8 @@ impl Table {
 
     /// Whether some live thread of the group blocks the signal.
     pub fn some_blocks(&self, tgid: u32, signal: Signal) -> bool
-        ensures { result ≡ list_any (λ t. is_live t.life && has t.mask signal) (members self.now.table tgid) }
+        ensures { result
+            ≡ list_any (λ t. is_live t.life && has t.mask signal) (members self.now.table tgid) }
     {
         self.threads.some_blocks(tgid, signal)
     }

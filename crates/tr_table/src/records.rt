@@ -18,7 +18,10 @@ impl Table {
     pub fn add(&mut self, thread: &Thread) -> Result<(), AllocError>
         requires new_id { thread_of self.old.table thread.now.id ≡ None }
         requires room { length (members self.old.table thread.now.group) < 64 }
-        ensures ok { OnOk result (self.new ≡ record self.old { table = record self.old.table { threads = self.old.table.threads ++ thread.now ∷ [] } }) }
+        ensures ok { OnOk result (self.new
+            ≡ record self.old {
+              table = record self.old.table { threads = self.old.table.threads ++ thread.now ∷ [] };
+            }) }
         ensures err { OnErr result (self.new ≡ self.old) }
     {
         self.threads.add(thread)
@@ -28,7 +31,10 @@ impl Table {
     /// it stays.
     pub fn remove(&mut self, id: u32) -> bool
         ensures was { result ≡ is_some (thread_of self.old.table id) }
-        ensures table { self.new ≡ record self.old { table = record self.old.table { threads = dropped id self.old.table.threads } } }
+        ensures table { self.new
+            ≡ record self.old {
+              table = record self.old.table { threads = dropped id self.old.table.threads };
+            } }
     {
         let was = self.threads.find(id).is_some();
         self.threads.remove(id);
@@ -37,14 +43,18 @@ impl Table {
 
     /// The thread with the id goes if it is dead, and the threads after it move up. What waits for it stays.
     pub fn remove_dead(&mut self, id: u32)
-        ensures { self.new ≡ record self.old { table = (remove_dead (λ t. t.id == id) (begin self.old.table)).table } }
+        ensures { self.new
+            ≡ record self.old {
+              table = (remove_dead (λ t. t.id == id) (begin self.old.table)).table;
+            } }
     {
         self.threads.remove_dead(id);
     }
 
     /// The group with the id goes if it has no thread, and the groups after it move up.
     pub fn remove_group(&mut self, tgid: u32)
-        ensures { self.new ≡ record self.old { table = (drop_empty tgid (begin self.old.table)).table } }
+        ensures { self.new
+            ≡ record self.old { table = (drop_empty tgid (begin self.old.table)).table } }
     {
         self.groups.drop_empty(&self.threads, tgid);
     }
@@ -52,7 +62,8 @@ impl Table {
     /// The thread with the id takes the place and the id of its dead leader, whose record goes, and what waits for it
     /// goes with it: "execve(2) under ptrace" of ptrace(2). Nothing changes where there is no such thread.
     pub fn rename(&mut self, id: u32)
-        ensures { self.new ≡ record self.old { table = (at id with_leaders_row (begin self.old.table)).table } }
+        ensures { self.new
+            ≡ record self.old { table = (at id with_leaders_row (begin self.old.table)).table } }
     {
         if let Some(thread) = self.threads.find(id) {
             let thread = *thread;
@@ -63,15 +74,27 @@ impl Table {
 
     /// Writes the record of a thread, over that of the thread with its id. Its group stays what it was.
     pub fn put_thread(&mut self, thread: &Thread)
-        requires same_group { (t : Thread) → thread_of self.old.table thread.now.id ≡ Some t → t.group ≡ thread.now.group }
-        ensures { self.new ≡ record self.old { table = record self.old.table { threads = changed thread.now.id (λ _. thread.now) self.old.table.threads } } }
+        requires same_group { (t : Thread)
+            → thread_of self.old.table thread.now.id ≡ Some t
+            → t.group ≡ thread.now.group }
+        ensures { self.new
+            ≡ record self.old {
+              table = record self.old.table {
+                threads = changed thread.now.id (λ _. thread.now) self.old.table.threads;
+              };
+            } }
     {
         self.threads.replace(thread);
     }
 
     /// Writes the record of a group, over that of the first group with its id.
     pub fn put_group(&mut self, group: &Group)
-        ensures { self.new ≡ record self.old { table = record self.old.table { groups = group_changed group.now.tgid (λ _. group.now) self.old.table.groups } } }
+        ensures { self.new
+            ≡ record self.old {
+              table = record self.old.table {
+                groups = group_changed group.now.tgid (λ _. group.now) self.old.table.groups;
+              };
+            } }
     {
         self.groups.replace(group);
     }

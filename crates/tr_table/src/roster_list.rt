@@ -24,7 +24,13 @@ impl Model for Roster {
 
     ghost Value = { RosterView };
 
-    ghost view = { λ r. record { ids = r.ids.items; live = r.live; dead = r.dead; traced = r.traced; marked = r.marked } };
+    ghost view = { λ r. record {
+      ids = r.ids.items;
+      live = r.live;
+      dead = r.dead;
+      traced = r.traced;
+      marked = r.marked;
+    } };
 }
 
 impl Roster {
@@ -153,7 +159,8 @@ impl Rosters {
 
     /// Whether all threads of a group are dead.
     pub(crate) fn all_dead(&self, tgid: u32) -> bool
-        ensures { result ≡ ((roster_in self.now tgid).dead == length (roster_in self.now tgid).ids) }
+        ensures { result
+            ≡ ((roster_in self.now tgid).dead == length (roster_in self.now tgid).ids) }
     {
         match self.map.get(&tgid) {
             Some(roster) => roster.dead == roster.ids.len(),
@@ -192,7 +199,10 @@ impl Rosters {
     pub(crate) fn push(&mut self, thread: &Thread) -> Result<(), AllocError>
         requires room { length (roster_in self.old thread.now.group).ids < 64 }
         requires small { IsSmall (roster_in self.old thread.now.group) }
-        ensures ok { OnOk result ((g : ℕ) → roster_in self.new g ≡ (if thread.now.group == g then with_last thread.now (roster_in self.old g) else roster_in self.old g)) }
+        ensures ok { OnOk result ((g : ℕ)
+            → roster_in self.new g
+            ≡ (if thread.now.group == g then with_last thread.now
+            (roster_in self.old g) else roster_in self.old g)) }
         ensures err { OnErr result (self.new ≡ self.old) }
     {
         if let Some(roster) = self.map.get_mut(&thread.group) {
@@ -209,7 +219,10 @@ impl Rosters {
     pub(crate) fn remove(&mut self, thread: &Thread)
         requires small { IsSmall (roster_in self.old thread.now.group) }
         requires counts { Counts thread.now (roster_in self.old thread.now.group) }
-        ensures { (g : ℕ) → roster_in self.new g ≡ (if thread.now.group == g then unless_empty (without thread.now (roster_in self.old g)) else roster_in self.old g) }
+        ensures { (g : ℕ)
+            → roster_in self.new g
+            ≡ (if thread.now.group == g then unless_empty
+            (without thread.now (roster_in self.old g)) else roster_in self.old g) }
     {
         if let Some(roster) = self.map.get_mut(&thread.group) {
             roster.remove(thread);
@@ -222,7 +235,9 @@ impl Rosters {
     /// A group that has threads has this roster from now on.
     pub(crate) fn set(&mut self, tgid: u32, roster: Roster)
         requires { 0 < length (roster_in self.old tgid).ids }
-        ensures { (g : ℕ) → roster_in self.new g ≡ (if tgid == g then unless_empty roster else roster_in self.old g) }
+        ensures { (g : ℕ)
+            → roster_in self.new g
+            ≡ (if tgid == g then unless_empty roster else roster_in self.old g) }
     {
         if roster.ids.is_empty() {
             let _empty = self.map.swap_remove(&tgid);
@@ -236,7 +251,10 @@ impl Rosters {
         requires there { 0 < length (roster_in self.old before.now.group).ids }
         requires small { IsSmall (roster_in self.old before.now.group) }
         requires counts { Counts before.now (roster_in self.old before.now.group) }
-        ensures { (g : ℕ) → roster_in self.new g ≡ (if before.now.group == g then rewritten before.now after.now (roster_in self.old g) else roster_in self.old g) }
+        ensures { (g : ℕ)
+            → roster_in self.new g
+            ≡ (if before.now.group == g then rewritten before.now after.now
+            (roster_in self.old g) else roster_in self.old g) }
     {
         if let Some(roster) = self.map.get_mut(&before.group) {
             roster.rewrite(before, after);

@@ -27,7 +27,12 @@ impl Model for Rows {
 
     ghost Value = { RowsView };
 
-    ghost view = { λ r. record { own = r.own.items; blocked = r.blocked.items; runnable = r.runnable.items; shared = r.shared } };
+    ghost view = { λ r. record {
+      own = r.own.items;
+      blocked = r.blocked.items;
+      runnable = r.runnable.items;
+      shared = r.shared;
+    } };
 }
 
 impl Rows {
@@ -46,7 +51,12 @@ impl Rows {
         requires own { length self.old.own < 64 }
         requires blocked { length self.old.blocked < 64 }
         requires runnable { length self.old.runnable < 64 }
-        ensures { self.new ≡ record self.old { own = self.old.own ++ own ∷ []; blocked = self.old.blocked ++ blocked ∷ []; runnable = self.old.runnable ++ runnable ∷ [] } }
+        ensures { self.new
+            ≡ record self.old {
+              own = self.old.own ++ own ∷ [];
+              blocked = self.old.blocked ++ blocked ∷ [];
+              runnable = self.old.runnable ++ runnable ∷ [];
+            } }
     {
         self.own.push(own);
         self.blocked.push(blocked);

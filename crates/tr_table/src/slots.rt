@@ -17,7 +17,8 @@ pub(crate) struct Slot {
 pub(crate) fn place_of(slots: &[Slot], n: u64) -> Option<usize>
     requires { IsSorted (all_in slots.now) }
     ensures within { IfSome result (λ i. i < length slots.now) }
-    ensures found { IfSome result (λ i. (s : Slot) → (get_or slots.now i s).waiting.instance.n ≡ n) }
+    ensures found { IfSome result
+        (λ i. (s : Slot) → (get_or slots.now i s).waiting.instance.n ≡ n) }
     ensures none { IfNone result (instance_in (all_in slots.now) n ≡ None) }
 {
     slots
@@ -41,7 +42,8 @@ pub(crate) fn trim(slots: &mut Vec<Slot>)
 /// Whether the last slot is that of an instance that waits no more.
 fn ends_empty(slots: &[Slot]) -> bool
     ensures some { result ≡ true → 0 < length slots.now }
-    ensures empty { result ≡ true → standing (take (length slots.now - 1) slots.now) ≡ standing slots.now }
+    ensures empty { result ≡ true
+        → standing (take (length slots.now - 1) slots.now) ≡ standing slots.now }
     ensures waits { result ≡ false → IsTrimmed slots.now }
 {
     match slots.last() {

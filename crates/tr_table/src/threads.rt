@@ -93,7 +93,8 @@ pub enum ThreadChange {
 /// The rosters of all groups of a list.
 fn rosters_of(threads: &[Thread], alloc: Global) -> Result<Rosters, AllocError>
     requires { (g : ℕ) → length (filter (in_group g) threads.now) ≤ 64 }
-    ensures { IfOk result (λ rosters. (g : ℕ) → roster_in rosters g ≡ roster_of (filter (in_group g) threads.now)) }
+    ensures { IfOk result
+        (λ rosters. (g : ℕ) → roster_in rosters g ≡ roster_of (filter (in_group g) threads.now)) }
 {
     let mut rosters = Rosters::new(alloc);
     for thread in threads {
@@ -115,7 +116,8 @@ fn index_of(threads: &[Thread], alloc: Global) -> Result<Index, AllocError>
 
 /// What is kept of these threads for the waits of tracers.
 fn tracing_of(threads: &[Thread], alloc: Global) -> Result<Tracing, AllocError>
-    ensures { IfOk result (λ tracing. IsTracing threads.now tracing × HasPlaces (length threads.now) tracing) }
+    ensures { IfOk result
+        (λ tracing. IsTracing threads.now tracing × HasPlaces (length threads.now) tracing) }
 {
     let mut tracing = Tracing::new(alloc);
     tracing.grow(threads.len())?;
@@ -195,7 +197,9 @@ impl Threads {
     /// The record at a place becomes this one, which has its id and its group.
     pub(crate) fn write(&mut self, place: usize, thread: &Thread)
         requires place { place < length self.old }
-        requires same { (d : Thread) → (thread.now.id ≡ (get_or self.old place d).id) × (thread.now.group ≡ (get_or self.old place d).group) }
+        requires same { (d : Thread)
+            → (thread.now.id ≡ (get_or self.old place d).id)
+            × (thread.now.group ≡ (get_or self.old place d).group) }
         ensures { self.new ≡ slice_set self.old place thread.now }
     {
         self.rosters.rewrite(&self.list[place], thread);
@@ -232,7 +236,9 @@ impl Threads {
 
     /// The record of the first thread with its id, whose group it has.
     pub(crate) fn replace(&mut self, thread: &Thread)
-        requires { (t : Thread) → thread_in self.old thread.now.id ≡ Some t → t.group ≡ thread.now.group }
+        requires { (t : Thread)
+            → thread_in self.old thread.now.id ≡ Some t
+            → t.group ≡ thread.now.group }
         ensures { self.new ≡ changed thread.now.id (λ _. thread.now) self.old }
     {
         if let Some(place) = self.place(thread.id) {

@@ -17,7 +17,9 @@ use tr_wait::Which;
 impl Table {
     /// Whether the actor traces a thread that the wait asks for.
     pub fn has_asked(&self, actor: u32, which: Which) -> bool
-        ensures { result ≡ list_any (λ t. asks_for which t.id) (filter (is_tracee_of actor) self.now.table.threads) }
+        ensures { result
+            ≡ list_any (λ t. asks_for which t.id)
+            (filter (is_tracee_of actor) self.now.table.threads) }
     {
         match only_asked(which) {
             Some(id) => self.threads.tracee(actor, id).is_some(),
@@ -28,7 +30,8 @@ impl Table {
     /// The first, in table order, of the actor's tracees that the wait asks for that has a report, and that of the number
     /// where one is given.
     pub fn reported(&self, actor: u32, which: Which, number: Option<u64>) -> Option<&Thread>
-        ensures { option_copied result ≡ find (λ t. is_report number t.report) (asked_tracees self.now.table actor which) }
+        ensures { option_copied result
+            ≡ find (λ t. is_report number t.report) (asked_tracees self.now.table actor which) }
     {
         match only_asked(which) {
             Some(id) => with_report(self.threads.tracee(actor, id), number),
@@ -90,7 +93,8 @@ fn is_report(report: &Option<Report>, number: Option<u64>) -> bool
 
 /// The thread, where it has such a report.
 fn with_report(thread: Option<&Thread>, number: Option<u64>) -> Option<&Thread>
-    ensures { option_copied result ≡ if_passes (λ t. is_report number t.report) (option_copied thread.entry) }
+    ensures { option_copied result
+        ≡ if_passes (λ t. is_report number t.report) (option_copied thread.entry) }
 {
     let thread = thread?;
     if is_report(&thread.report, number) {

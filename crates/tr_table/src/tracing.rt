@@ -28,7 +28,12 @@ impl Model for Tracing {
 
     ghost Value = { TracingView };
 
-    ghost view = { λ t. record { tracers = t.tracers; waiters = t.waiters; reporting = t.reporting.items; places = vec_capacity t.reporting } };
+    ghost view = { λ t. record {
+      tracers = t.tracers;
+      waiters = t.waiters;
+      reporting = t.reporting.items;
+      places = vec_capacity t.reporting;
+    } };
 }
 
 fn tracer_of(thread: &Thread) -> Option<u32>
@@ -71,9 +76,12 @@ fn rank(ids: &[u32], index: &Index, place: usize) -> usize
 /// The id at a place comes to those that are listed, or goes, or neither.
 fn relist(ids: &mut Vec<u32>, index: &Index, place: usize, id: u32, was: bool, is: bool)
     requires parted { IsPartitionedBy (is_before index.now place) ids.old.items }
-    requires there { length (filter (is_before index.now place) ids.old.items) + bool_to_nat was ≤ length ids.old.items }
+    requires there { length (filter (is_before index.now place) ids.old.items) + bool_to_nat was
+        ≤ length ids.old.items }
     requires room { length ids.old.items + bool_to_nat is ≤ vec_capacity ids.old + bool_to_nat was }
-    ensures items { ids.new.items ≡ relisted was is (length (filter (is_before index.now place) ids.old.items)) id ids.old.items }
+    ensures items { ids.new.items
+        ≡ relisted was is
+        (length (filter (is_before index.now place) ids.old.items)) id ids.old.items }
     ensures capacity { vec_capacity ids.new ≡ vec_capacity ids.old }
 {
     if was && !is {
@@ -133,7 +141,9 @@ impl Tracing {
     /// A thread comes last.
     pub(crate) fn add(&mut self, thread: &Thread)
         requires { HasPlace self.old }
-        ensures kept { (ts : List Thread) → IsTracing ts self.old → IsTracing (ts ++ thread.now ∷ []) self.new }
+        ensures kept { (ts : List Thread)
+            → IsTracing ts self.old
+            → IsTracing (ts ++ thread.now ∷ []) self.new }
         ensures places { (n : ℕ) → HasPlaces n self.old → HasPlaces n self.new }
     {
         let waiter = waiter_of(thread);

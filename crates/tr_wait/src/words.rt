@@ -92,7 +92,8 @@ fn stopped(shown: u32) -> Option<Status>
 
 /// What an event stop with a signal of this number shows.
 fn stop_sig(number: u32) -> Option<StopSig>
-    ensures { MatchOption result ((s : StopSig) → stop_number s ≢ number) (λ s. stop_number s ≡ number) }
+    ensures { MatchOption result ((s : StopSig) → stop_number s ≢ number)
+        (λ s. stop_number s ≡ number) }
 {
     match number {
         5 => Some(StopSig::Trap),

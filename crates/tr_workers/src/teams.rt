@@ -34,7 +34,10 @@ impl<'a, E: Parts, A: Parts, G: Gate> Promise<Result<Done<E, A>, AllocError>> fo
     ghost use Rattle.std.specs.Prelude.{◌≡◌, IfOk};
     ghost use Rattle.tr_workers.specs.Runs.{IsDone};
 
-    ghost kept_by = { λ p r. IfOk r (λ d. IsDone (G.may_say p.gate.now p.worker) p.turns p.script.now d.receipts × (d.seat.entries ≡ d.receipts.entries) × (d.seat.accepted ≡ d.receipts.accepted)) };
+    ghost kept_by = { λ p r. IfOk r (λ d.
+        IsDone (G.may_say p.gate.now p.worker) p.turns p.script.now d.receipts
+        × (d.seat.entries ≡ d.receipts.entries)
+        × (d.seat.accepted ≡ d.receipts.accepted)) };
 }
 
 /// All workers' seats after their work, and what they hand back, both in their order.
@@ -58,8 +61,10 @@ fn work_at<E: Parts, A: Parts, R: Wait, G: Gate>(
     requires actor { seat.actor ≡ script.now.actor }
     requires fresh { (seat.entries ≡ 0) × (seat.accepted ≡ 0) }
     requires turns { turns < 2 ^ 32 }
-    ensures done { IfOk result (λ d. IsDone (G.may_say gate.now worker) turns script.now d.receipts) }
-    ensures shares { IfOk result (λ d. (d.seat.entries ≡ d.receipts.entries) × (d.seat.accepted ≡ d.receipts.accepted)) }
+    ensures done { IfOk result
+        (λ d. IsDone (G.may_say gate.now worker) turns script.now d.receipts) }
+    ensures shares { IfOk result
+        (λ d. (d.seat.entries ≡ d.receipts.entries) × (d.seat.accepted ≡ d.receipts.accepted)) }
 {
     let mut port = SeatPort::new(alloc, rt, hub, seat);
     let tally = work(alloc, worker, &mut port, gate, script, turns)?;
@@ -99,7 +104,10 @@ fn start_all<
 ) -> Result<Vec<PromisedHandle<Result<Done<E, A>, AllocError>, WorkOf<'e, G>>>, AllocError>
     requires turns { turns < 2 ^ 32 }
     requires seats { seats.items ≡ map (λ s. new_seat s.actor) scripts.now }
-    ensures tasks { IfOk result (λ handles. map (λ h. task h.promise.gate.now h.promise.worker h.promise.script.now h.promise.turns) handles.items ≡ tasks gate.now 0 scripts.now turns) }
+    ensures tasks { IfOk result
+        (λ handles. map
+        (λ h. task h.promise.gate.now h.promise.worker h.promise.script.now h.promise.turns) handles.items
+        ≡ tasks gate.now 0 scripts.now turns) }
     ensures count { IfOk result (λ handles. vec_len handles ≡ length scripts.now) }
 {
     let mut handles = Vec::new(alloc);
@@ -107,8 +115,14 @@ fn start_all<
         let script = &scripts[worker];
         let seat = seats.remove(0);
         let job = move || -> Result<Done<E, A>, AllocError>
-            requires { (seat.actor ≡ script.now.actor) × (seat.entries ≡ 0) × (seat.accepted ≡ 0) × (turns < 2 ^ 32) }
-            ensures { IfOk result (λ d. IsDone (G.may_say gate.entry.now worker) turns script.entry.now d.receipts × (d.seat.entries ≡ d.receipts.entries) × (d.seat.accepted ≡ d.receipts.accepted)) }
+            requires { (seat.actor ≡ script.now.actor)
+                × (seat.entries ≡ 0)
+                × (seat.accepted ≡ 0)
+                × (turns < 2 ^ 32) }
+            ensures { IfOk result
+                (λ d. IsDone (G.may_say gate.entry.now worker) turns script.entry.now d.receipts
+                × (d.seat.entries ≡ d.receipts.entries)
+                × (d.seat.accepted ≡ d.receipts.accepted)) }
         { work_at(rt, alloc, hub, gate, worker, script, seat, turns) };
         let promise = WorkOf {
             gate,
@@ -127,9 +141,13 @@ fn join_all<'s, E: Parts + Send + Sync, A: Parts + Send + Sync, R: Threads, G: G
     alloc: Global,
     handles: Vec<PromisedHandle<Result<Done<E, A>, AllocError>, WorkOf<'s, G>>>,
 ) -> Result<Team<E, A>, AllocError>
-    ensures done { IfOk result (λ t. AreKept G.may_say (map (λ h. task h.promise.gate.now h.promise.worker h.promise.script.now h.promise.turns) handles.entry.items) t.receipts.items) }
-    ensures entries { IfOk result (λ t. sum_by (λ s. s.entries) t.seats.items ≡ sum_by (λ r. r.entries) t.receipts.items) }
-    ensures accepted { IfOk result (λ t. sum_by (λ s. s.accepted) t.seats.items ≡ sum_by (λ r. r.accepted) t.receipts.items) }
+    ensures done { IfOk result
+        (λ t. AreKept G.may_say
+        (map (λ h. task h.promise.gate.now h.promise.worker h.promise.script.now h.promise.turns) handles.entry.items) t.receipts.items) }
+    ensures entries { IfOk result
+        (λ t. sum_by (λ s. s.entries) t.seats.items ≡ sum_by (λ r. r.entries) t.receipts.items) }
+    ensures accepted { IfOk result
+        (λ t. sum_by (λ s. s.accepted) t.seats.items ≡ sum_by (λ r. r.accepted) t.receipts.items) }
     ensures seats { IfOk result (λ t. vec_len t.seats ≡ vec_len handles.entry) }
 {
     let mut seats = Vec::new(alloc);
@@ -160,9 +178,12 @@ pub(crate) fn work_on_threads<
 ) -> Result<Team<E, A>, AllocError>
     requires turns { turns < 2 ^ 32 }
     requires seats { seats.items ≡ map (λ s. new_seat s.actor) scripts.now }
-    ensures done { IfOk result (λ t. AreDone (G.may_say gate.now) turns 0 scripts.now t.receipts.items) }
-    ensures entries { IfOk result (λ t. sum_by (λ s. s.entries) t.seats.items ≡ sum_by (λ r. r.entries) t.receipts.items) }
-    ensures accepted { IfOk result (λ t. sum_by (λ s. s.accepted) t.seats.items ≡ sum_by (λ r. r.accepted) t.receipts.items) }
+    ensures done { IfOk result
+        (λ t. AreDone (G.may_say gate.now) turns 0 scripts.now t.receipts.items) }
+    ensures entries { IfOk result
+        (λ t. sum_by (λ s. s.entries) t.seats.items ≡ sum_by (λ r. r.entries) t.receipts.items) }
+    ensures accepted { IfOk result
+        (λ t. sum_by (λ s. s.accepted) t.seats.items ≡ sum_by (λ r. r.accepted) t.receipts.items) }
     ensures seats { IfOk result (λ t. vec_len t.seats ≡ length scripts.now) }
 {
     thread::scope(
@@ -170,9 +191,11 @@ pub(crate) fn work_on_threads<
         rt,
         |scope| -> Result<Team<E, A>, AllocError>
             requires { (turns < 2 ^ 32) × (seats.items ≡ map (λ s. new_seat s.actor) scripts.now) }
-            ensures { IfOk result (λ t. AreKept G.may_say (tasks gate.entry.now 0 scripts.entry.now turns) t.receipts.items
+            ensures { IfOk result (λ t.
+                AreKept G.may_say (tasks gate.entry.now 0 scripts.entry.now turns) t.receipts.items
                 × (sum_by (λ s. s.entries) t.seats.items ≡ sum_by (λ r. r.entries) t.receipts.items)
-                × (sum_by (λ s. s.accepted) t.seats.items ≡ sum_by (λ r. r.accepted) t.receipts.items)
+                × (sum_by (λ s. s.accepted) t.seats.items
+                ≡ sum_by (λ r. r.accepted) t.receipts.items)
                 × (vec_len t.seats ≡ length scripts.entry.now)) }
         {
             let handles = start_all(scope, rt, alloc, hub, gate, scripts, seats, turns)?;

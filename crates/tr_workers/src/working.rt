@@ -49,7 +49,9 @@ impl Tally {
 
     /// Counts an answer. Want of memory is an error, and changes nothing.
     pub fn count(&mut self, answer: &Answer) -> Result<(), AllocError>
-        requires small { (self.old.entries < 2 ^ 32) × (self.old.accepted < 2 ^ 42) × (self.old.refused < 2 ^ 32) }
+        requires small { (self.old.entries < 2 ^ 32)
+            × (self.old.accepted < 2 ^ 42)
+            × (self.old.refused < 2 ^ 32) }
         requires few { accepted_in answer.now ≤ 1024 }
         ensures counted { OnOk result (self.new ≡ counted self.old answer.now) }
         ensures answered { OnOk result (answer.now ≡ Refused NoMemory → ⊥) }
@@ -69,7 +71,13 @@ impl Tally {
 
     /// Gives the counts with this end.
     pub fn ended(self, outcome: Ended) -> Tally
-        ensures { result ≡ record { entries = self.entries; accepted = self.accepted; refused = self.refused; outcome = outcome } }
+        ensures { result
+            ≡ record {
+              entries = self.entries;
+              accepted = self.accepted;
+              refused = self.refused;
+              outcome = outcome;
+            } }
     {
         Tally { outcome, ..self }
     }
@@ -90,13 +98,18 @@ pub fn work<P: Port, G: Gate>(
 ) -> Result<Tally, AllocError>
     requires fresh { (P.calls port.old ≡ 0) × (P.receipts port.old ≡ []) × (P.told port.old ≡ []) }
     requires turns { turns < 2 ^ 32 }
-    ensures follows { IfOk result (λ t. Follows script.now.plan (P.calls port.new) (P.receipts port.new) (P.told port.new) t.outcome) }
+    ensures follows { IfOk result
+        (λ t. Follows script.now.plan (P.calls port.new) (P.receipts port.new)
+        (P.told port.new) t.outcome) }
     ensures entries { IfOk result (λ t. t.entries ≡ length (P.receipts port.new)) }
     ensures accepted { IfOk result (λ t. t.accepted ≡ accepted_of (P.receipts port.new)) }
     ensures refused { IfOk result (λ t. t.refused ≡ refused_of (P.told port.new)) }
-    ensures turns { IfOk result (λ t. HasTurns (G.may_say gate.now worker) (P.calls port.new) turns t.outcome) }
+    ensures turns { IfOk result
+        (λ t. HasTurns (G.may_say gate.now worker) (P.calls port.new) turns t.outcome) }
     ensures lasts { P.lasts port.old → P.lasts port.new }
-    ensures err { IfErr result (λ _. ((is_machine script.now.plan ≡ true) × (port.new ≡ port.old)) ⊎ IsCutShort script.now.plan turns (P.calls port.new) (P.receipts port.new) (P.told port.new)) }
+    ensures err { IfErr result (λ _. ((is_machine script.now.plan ≡ true) × (port.new ≡ port.old))
+        ⊎ IsCutShort script.now.plan turns (P.calls port.new) (P.receipts port.new)
+        (P.told port.new)) }
 {
     let mut calls = Calls::new(alloc, script)?;
     let mut tally = Tally::new();

@@ -32,7 +32,8 @@ pub fn perform<T: AllocGlobal + Threads + Wait + Sync, S: AsStr, R: Source, W: S
     requires interruptions { (R.shown reader.old).interruptions + 1048576 < 2 ^ 64 }
     requires room { W.failures writer.old < 2 ^ 64 - 1 }
     requires faults { E.failures faults.old < 2 ^ 64 - 1 }
-    ensures { Performs R.shown W.taken W.failures E.taken E.failures (map S.text words.now) reader.old reader.new writer.old writer.new faults.old faults.new result }
+    ensures { Performs R.shown W.taken W.failures E.taken E.failures
+        (map S.text words.now) reader.old reader.new writer.old writer.new faults.old faults.new result }
 {
     match attempt(rt, rt.alloc(), words, reader, writer) {
         Ok(()) => 0,
@@ -53,9 +54,13 @@ pub fn perform_words<
     requires interruptions { (R.shown reader.old).interruptions + 1048576 < 2 ^ 64 }
     requires room { W.failures writer.old < 2 ^ 64 - 1 }
     requires faults { E.failures faults.old < 2 ^ 64 - 1 }
-    ensures performs { IfOk words (λ v. Performs R.shown W.taken W.failures E.taken E.failures (map S.text v.items) reader.old reader.new writer.old writer.new faults.old faults.new result) }
-    ensures memory { IfErr words (λ e. error_kind e ≡ ErrorKind.OutOfMemory → Ends E.taken E.failures faults.old faults.new (Err (Scenario scenario.NoMemory)) result) }
-    ensures usage { IfErr words (λ e. error_kind e ≢ ErrorKind.OutOfMemory → Ends E.taken E.failures faults.old faults.new (Err Usage) result) }
+    ensures performs { IfOk words
+        (λ v. Performs R.shown W.taken W.failures E.taken E.failures
+        (map S.text v.items) reader.old reader.new writer.old writer.new faults.old faults.new result) }
+    ensures memory { IfErr words (λ e. error_kind e ≡ ErrorKind.OutOfMemory
+        → Ends E.taken E.failures faults.old faults.new (Err (Scenario scenario.NoMemory)) result) }
+    ensures usage { IfErr words (λ e. error_kind e ≢ ErrorKind.OutOfMemory
+        → Ends E.taken E.failures faults.old faults.new (Err Usage) result) }
     ensures same { IfErr words (λ _. (reader.new ≡ reader.old) × (writer.new ≡ writer.old)) }
 {
     match words {
@@ -84,7 +89,8 @@ fn attempt<T: Threads + Wait + Sync, S: AsStr, R: Source, W: Sink>(
     requires failures { (R.shown reader.old).failures < 2 ^ 64 - 1 }
     requires interruptions { (R.shown reader.old).interruptions + 1048576 < 2 ^ 64 }
     requires room { W.failures writer.old < 2 ^ 64 - 1 }
-    ensures { Attempts R.shown W.taken W.failures (map S.text words.now) reader.old reader.new writer.old writer.new result }
+    ensures { Attempts R.shown W.taken W.failures
+        (map S.text words.now) reader.old reader.new writer.old writer.new result }
 {
     match asked(alloc, words) {
         Ok(Ask::Serial) => Ok(serial(alloc, reader, writer)?),

@@ -83,7 +83,12 @@ pub struct Feed<'a> {
 impl Source for Feed<'_> {
     ghost use Rattle.tr_scenario.specs.Sources.{Shown};
 
-    ghost shown = { λ s. record { given = s.given.items; ended = s.ended; failures = s.failures; interruptions = s.interruptions } };
+    ghost shown = { λ s. record {
+      given = s.given.items;
+      ended = s.ended;
+      failures = s.failures;
+      interruptions = s.interruptions;
+    } };
 
     fn get(&mut self, room: &mut [u8]) -> Got {
         self.ended = false;
