@@ -5,7 +5,8 @@ use Rattle.std.specs.List.{list_any}
 use Rattle.std.proofs.lemmas.Bool.{eq-eqb, true≢false, or_left, or_right}
 use Rattle.tr_tracee.specs.declared.thread.Thread.{Thread}
 use Rattle.tr_model.specs.Takes.{is_empty}
-use Rattle.tr_model.specs.Journals.{IsIn, ids_of, occurs}
+use Rattle.tr_model.specs.Journals.{IsIn, occurs}
+use Rattle.tr_model.specs.Tables.{ids_of}
 
 abbrev pub Among : {A : Type 0} → A → List A → Type 0
 Among x [] = ⊥

@@ -40,11 +40,11 @@ entry_sane T e h s =
     let p = always-kept Spoken moves-spoken T e h (record { each = s.spoken }) in
     record { once = d.once; spoken = p.each }
 
-pub ids_total : (k : ℕ) (ts : List Thread) → total (has_id k) ts ≡ Journals.occurs k (Journals.ids_of ts)
+pub ids_total : (k : ℕ) (ts : List Thread) → total (has_id k) ts ≡ Journals.occurs k (Tables.ids_of ts)
 ids_total k [] = refl
 ids_total k (t ∷ ts) = go (t.id == k) (ids_total k ts)
   where
-    go : (b : Bool) → total (has_id k) ts ≡ Journals.occurs k (Journals.ids_of ts) → one b + total (has_id k) ts ≡ (if b then 1 else 0) + Journals.occurs k (Journals.ids_of ts)
+    go : (b : Bool) → total (has_id k) ts ≡ Journals.occurs k (Tables.ids_of ts) → one b + total (has_id k) ts ≡ (if b then 1 else 0) + Journals.occurs k (Tables.ids_of ts)
     go true e = omega (arith, e)
     go false e = omega (arith, e)
 

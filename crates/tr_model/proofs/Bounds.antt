@@ -253,17 +253,17 @@ exit_kills : (id : ℕ) (w : Work) → Bound (cost 1 0 0 1) w (Moves.at id Trace
 exit_kills id w = ats id Tracers.exit_kill w (λ t. chain w (Moves.accept_as Delivered w) _ (accepts_as Delivered w) (kills t.group (Moves.accept_as Delivered w)))
 
 -- a tracer has at most as many tracees as there are threads
-count_tracees : (T : Table) (a : ℕ) → length (Tracers.ids (Tracers.tracees T a)) ≤ length T.threads
+count_tracees : (T : Table) (a : ℕ) → length (Tables.ids_of (Tracers.tracees T a)) ≤ length T.threads
 count_tracees T a = omega (arith, length-map (Tracers.tracees T a) (λ (t : Thread). t.id), filter-le-length (Threads.is_tracee_of a) T.threads)
 
 -- and no more to kill when it ends
-count_to_kill : (T : Table) (a : ℕ) → length (Tracers.ids (Tracers.to_kill T a)) ≤ length T.threads
+count_to_kill : (T : Table) (a : ℕ) → length (Tables.ids_of (Tracers.to_kill T a)) ≤ length T.threads
 count_to_kill T a = omega (arith, length-map (Tracers.to_kill T a) (λ (t : Thread). t.id), filter-le-length (λ (t : Thread). (Threads.options_of t.trace).exitkill && not (Lives.is_dead t.life)) (Tracers.tracees T a), filter-le-length (Threads.is_tracee_of a) T.threads)
 
 tracer_exits : (a : ℕ) (w : Work) → Bound (cost (length w.table.threads) (length w.table.threads) 0 (length w.table.threads + length w.table.threads)) w (Tracers.tracer_exit a w)
 tracer_exits a w =
-    let killed = Tracers.ids (Tracers.to_kill w.table a) in
-    let lost = Tracers.ids (Tracers.tracees w.table a) in
+    let killed = Tables.ids_of (Tracers.to_kill w.table a) in
+    let lost = Tables.ids_of (Tracers.tracees w.table a) in
     within (record { accepted = omega (arith, count_to_kill w.table a); raised = omega (arith, count_tracees w.table a); added = omega arith; begun = omega (arith, count_to_kill w.table a, count_tracees w.table a); passes = λ e. refl })
     (chain w _ _ (each (λ id. Moves.at id Tracers.exit_kill) exit_kills killed w) (each (λ id. Moves.at id (Tracers.lose_tracer a)) (loses a) lost _))
 

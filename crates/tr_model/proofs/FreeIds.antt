@@ -5,11 +5,11 @@ use Rattle.std.proofs.lemmas.Bool.{le-leb, true≢false}
 use Rattle.std.proofs.lemmas.Bool.Decides.{nat_tests}
 use Rattle.tr_tracee.specs.declared.thread.Thread.{Thread}
 use Rattle.tr_model.specs.declared.rows.Group.{Group}
-use Rattle.tr_model.specs.Journals.{ids_of, occurs}
+use Rattle.tr_model.specs.Journals.{occurs}
 use Rattle.tr_model.specs.Laws.{HasFreeId}
 use Rattle.tr_model.specs.Preferred.{least_new, new_id, or_from_2}
 use Rattle.tr_model.specs.Steps.{is_new}
-use Rattle.tr_model.specs.Tables.{Table, group_in, group_of, thread_in, thread_of}
+use Rattle.tr_model.specs.Tables.{Table, group_in, group_of, ids_of, thread_in, thread_of}
 use Rattle.tr_model.proofs.Among.{occurs-append}
 
 -- What is found is new

@@ -308,8 +308,8 @@ module _ (R : Leave → Type 0) (X : ℕ → ℕ → Type 0) (P : Work → Type 
 
   pub tracer_exit-kept : (a : ℕ) → ((l : Leave) → l.tracer ≡ Some a → R l) → (w : Work) → P w → P (Tracers.tracer_exit a w)
   tracer_exit-kept a r w p =
-      each-kept (λ id. Moves.at id (Tracers.lose_tracer a)) (each_loses a r) (Tracers.ids (Tracers.tracees w.table a)) _
-      (each_at-kept Tracers.exit_kill exit_kill-kept (Tracers.ids (Tracers.to_kill w.table a)) w p)
+      each-kept (λ id. Moves.at id (Tracers.lose_tracer a)) (each_loses a r) (Tables.ids_of (Tracers.tracees w.table a)) _
+      (each_at-kept Tracers.exit_kill exit_kill-kept (Tables.ids_of (Tracers.to_kill w.table a)) w p)
 
   pub last_death-kept : (g : ℕ) (w : Work) → P w → P (Ends.last_death g w)
   last_death-kept g w p = at-kept g Ends.report_leader report_leader-kept _ (k.end_waiting Flushed refl (λ q. Tables.same_target (target.Group g) q.target) w p)

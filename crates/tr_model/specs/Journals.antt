@@ -20,7 +20,7 @@ use Rattle.tr_model.specs.declared.rows.Target.{Target}
 use Rattle.tr_model.specs.declared.rows.Target.TheVariants as target
 use Rattle.tr_model.specs.declared.rows.Waiting.{Waiting}
 use Rattle.tr_model.specs.Steps.{Step, number, work_of}
-use Rattle.tr_model.specs.Tables.{Table, thread_of}
+use Rattle.tr_model.specs.Tables.{Table, ids_of, thread_of}
 use Rattle.tr_model.specs.Takes.{choices_from, with_number}
 use Rattle.tr_model.specs.declared.raises.Raise.{Raise}
 
@@ -45,11 +45,6 @@ Each Q (t ∷ ts) = Q t × Each Q ts
 abbrev pub EachGroup : (Group → Type 0) → List Group → Type 0
 EachGroup Q [] = Unit {0}
 EachGroup Q (x ∷ xs) = Q x × EachGroup Q xs
-
--- the thread ids, in the order of the threads
-abbrev pub ids_of : List Thread → List ℕ
-ids_of [] = []
-ids_of (t ∷ ts) = t.id ∷ ids_of ts
 
 -- no two threads of the table have one id
 abbrev pub DistinctIds : Table → Type 0

@@ -128,3 +128,7 @@ owner_in ts (target.Thread id) = group_of_thread (thread_in ts id)
 -- the thread group whose queue it is: a thread's own queue is one of its group's
 abbrev pub owner : Table → Target → ℕ
 owner T q = owner_in T.threads q
+
+-- the ids of threads, in their order
+abbrev pub ids_of : List Thread → List ℕ
+ids_of ts = map (λ t. t.id) ts

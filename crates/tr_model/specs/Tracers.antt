@@ -7,7 +7,7 @@ use Rattle.tr_tracee.specs.Threads.{is_leader, is_tracee_of, options_of}
 use Rattle.tr_model.specs.declared.fates.Fate.TheVariants.{Delivered}
 use Rattle.tr_model.specs.Deaths.{kill_group}
 use Rattle.tr_model.specs.Ends.{pass_on, remove_thread}
-use Rattle.tr_model.specs.Tables.{Table}
+use Rattle.tr_model.specs.Tables.{Table, ids_of}
 use Rattle.tr_model.specs.Moves.{accept_as, at, each, when, Work}
 use Rattle.tr_model.specs.Restarts.{detach}
 
@@ -31,10 +31,6 @@ lose_tracer a t w = when (is_tracee_of a t) (leave_tracer t) w
 abbrev pub exit_kill : Thread → Work → Work
 exit_kill t w = kill_group t.group (accept_as Delivered w)
 
--- tracees are gone through by id, so that each is found as the moves before left it
-abbrev pub ids : List Thread → List ℕ
-ids ts = map (λ t. t.id) ts
-
 -- all tracees of the actor, in table order; dead ones that nobody has waited for are among them
 abbrev pub tracees : Table → ℕ → List Thread
 tracees T a = filter (is_tracee_of a) T.threads
@@ -43,8 +39,9 @@ tracees T a = filter (is_tracee_of a) T.threads
 abbrev pub to_kill : Table → ℕ → List Thread
 to_kill T a = filter (λ t. (options_of t.trace).exitkill && not (is_dead t.life)) (tracees T a)
 
--- the end of a tracer: the KILLs first, then each tracee is left, in table order
+-- the end of a tracer: the KILLs first, then each tracee is left, in table order; tracees are gone through by id, so that
+-- each is found as the moves before left it
 abbrev pub tracer_exit : ℕ → Work → Work
 tracer_exit a w =
-    each (ids (tracees w.table a)) (λ id. at id (lose_tracer a))
-    (each (ids (to_kill w.table a)) (λ id. at id exit_kill) w)
+    each (ids_of (tracees w.table a)) (λ id. at id (lose_tracer a))
+    (each (ids_of (to_kill w.table a)) (λ id. at id exit_kill) w)

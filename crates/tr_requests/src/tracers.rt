@@ -9,9 +9,9 @@ ghost use Rattle.tr_model.specs.declared.events.Event.TheVariants.{TracerExit};
 ghost use Rattle.tr_model.specs.Moves.{at, each};
 ghost use Rattle.tr_model.specs.Preferred.{check};
 ghost use Rattle.tr_model.specs.Restarts.{detach};
-ghost use Rattle.tr_model.specs.Tracers.{exit_kill, held_signal, ids, leave_tracer, lose_tracer};
+ghost use Rattle.tr_model.specs.Tracers.{exit_kill, held_signal, leave_tracer, lose_tracer};
 ghost use Rattle.tr_model.specs.Choices.{no_choice};
-ghost use Rattle.tr_model.specs.Tables.{thread_of};
+ghost use Rattle.tr_model.specs.Tables.{ids_of, thread_of};
 ghost use Rattle.tr_steps.specs.UnderWay.{IsStepOf, Moves, entry};
 ghost use Rattle.tr_requests.specs.Private.{is_to_kill, to_kill_among, tracees_among};
 
@@ -32,7 +32,7 @@ fn is_to_kill(thread: &Thread, actor: u32) -> bool
 
 /// The ids of an actor's tracees, in table order.
 fn tracees(threads: &[Thread], alloc: Global, actor: u32) -> Result<Vec<u32>, AllocError>
-    ensures { IfOk result (λ v. v.items ≡ ids (tracees_among threads.now actor)) }
+    ensures { IfOk result (λ v. v.items ≡ ids_of (tracees_among threads.now actor)) }
 {
     threads
         .iter()
@@ -43,7 +43,7 @@ fn tracees(threads: &[Thread], alloc: Global, actor: u32) -> Result<Vec<u32>, Al
 
 /// The ids of an actor's tracees that are to be killed as it ends, in table order.
 fn to_kill(threads: &[Thread], alloc: Global, actor: u32) -> Result<Vec<u32>, AllocError>
-    ensures { IfOk result (λ v. v.items ≡ ids (to_kill_among threads.now actor)) }
+    ensures { IfOk result (λ v. v.items ≡ ids_of (to_kill_among threads.now actor)) }
 {
     threads
         .iter()

@@ -5,9 +5,9 @@ use Rattle.std.proofs.lemmas.Bool.{cases_eq, ne_eqb}
 use Rattle.std.proofs.lemmas.List.Folds.{list_all-map}
 use Rattle.tr_tracee.specs.declared.thread.Thread.{Thread}
 use Rattle.tr_tracee.specs.Threads.{at_group, in_group}
-use Rattle.tr_model.specs.Journals.{ids_of, occurs}
+use Rattle.tr_model.specs.Journals.{occurs}
 use Rattle.tr_model.specs.Moves.{changed}
-use Rattle.tr_model.specs.Tables.{thread_in}
+use Rattle.tr_model.specs.Tables.{ids_of, thread_in}
 use Rattle.tr_table.proofs.Ids.{any_mapped}
 use Rattle.tr_table.proofs.Keeping.{fewer_kept}
 use Rattle.tr_table.proofs.Rosters.{Same}

@@ -7,9 +7,9 @@ use Rattle.tr_tracee.specs.Lives.{held}
 use Rattle.tr_model.specs.declared.fates.Fate.{Fate}
 use Rattle.tr_model.specs.declared.fates.Fate.TheVariants.{Flushed}
 use Rattle.tr_tracee.specs.Threads.{at_group, in_group}
-use Rattle.tr_model.specs.Journals.{ids_of, occurs}
+use Rattle.tr_model.specs.Journals.{occurs}
 use Rattle.tr_model.specs.Moves.{ended_by_change, ended_hold}
-use Rattle.tr_model.specs.Tables.{thread_in}
+use Rattle.tr_model.specs.Tables.{ids_of, thread_in}
 use Rattle.tr_table.specs.Private.{ends_of, held_by}
 use Rattle.tr_table.proofs.ByIds.{found}
 use Rattle.tr_table.proofs.Rostering.{ids_in}

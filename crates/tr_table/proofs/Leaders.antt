@@ -4,8 +4,9 @@ use Rattle.std.proofs.lemmas.List.{set-get_or}
 use Rattle.tr_tracee.specs.declared.thread.Thread.{Thread}
 use Rattle.tr_tracee.specs.Lives.{is_dead}
 use Rattle.tr_tracee.specs.Threads.{at_thread}
-use Rattle.tr_model.specs.Journals.{ids_of, occurs}
+use Rattle.tr_model.specs.Journals.{occurs}
 use Rattle.tr_model.specs.Moves.{changed, in_leaders_row, renamed}
+use Rattle.tr_model.specs.Tables.{ids_of}
 use Rattle.tr_table.specs.Private.{IsLeaderPlace, IsPlace}
 use Rattle.tr_table.proofs.Onlys.{only_changed}
 use Rattle.tr_table.proofs.Places.{is_place}

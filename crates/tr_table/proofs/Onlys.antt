@@ -2,8 +2,9 @@
 use Rattle.std.proofs.Common.{◌≡◌, ◌==◌, ◌≤◌, ◌+◌, ℕ, Bool, true, false, List, [], ◌∷◌, if◌then◌else◌, map, arith, ap, refl}
 use Rattle.tr_tracee.specs.declared.thread.Thread.{Thread}
 use Rattle.tr_tracee.specs.Threads.{at_thread}
-use Rattle.tr_model.specs.Journals.{ids_of, occurs}
+use Rattle.tr_model.specs.Journals.{occurs}
 use Rattle.tr_model.specs.Moves.{changed}
+use Rattle.tr_model.specs.Tables.{ids_of}
 
 nowhere : (id : ℕ) (f : Thread → Thread) (ts : List Thread) → occurs id (ids_of ts) ≤ 0 → map (at_thread id f) ts ≡ ts
 nowhere id f [] h = refl

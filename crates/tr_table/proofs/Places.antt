@@ -8,9 +8,8 @@ use Rattle.std.specs.Prelude.{slice_get}
 use Rattle.std.proofs.lemmas.List.Recursion.{is_position_or_len}
 use Rattle.tr_tracee.specs.declared.thread.Thread.{Thread}
 use Rattle.tr_model.specs.declared.rows.Group.{Group}
-use Rattle.tr_model.specs.Journals.{ids_of}
 use Rattle.tr_model.specs.Moves.{changed, dropped, group_changed}
-use Rattle.tr_model.specs.Tables.{group_in, thread_in}
+use Rattle.tr_model.specs.Tables.{group_in, ids_of, thread_in}
 use Rattle.tr_table.specs.Private.{IsGroupPlace, IsPlace, tgids_of}
 
 below : (m n : ℕ) → nat_lt m n ≡ true → m < n

@@ -7,8 +7,8 @@ use Rattle.tr_tracee.specs.declared.thread.Report.{Report}
 use Rattle.tr_tracee.specs.declared.thread.Thread.{Thread}
 use Rattle.tr_tracee.specs.declared.thread.Trace.{Trace}
 use Rattle.tr_tracee.specs.Threads.{is_tracee_of, traces, tracer_of}
-use Rattle.tr_model.specs.Journals.{ids_of, occurs}
-use Rattle.tr_model.specs.Tables.{thread_in}
+use Rattle.tr_model.specs.Journals.{occurs}
+use Rattle.tr_model.specs.Tables.{ids_of, thread_in}
 use Rattle.tr_table.specs.Tracing.{first_of, if_passes, is_number, is_reporting, passes, reports, tracer, waiter}
 use Rattle.tr_table.specs.Waits.{is_report}
 use Rattle.tr_table.proofs.ByIds.{any_counted, found}

@@ -6,7 +6,8 @@ use Rattle.std.proofs.lemmas.List.{take_more}
 use Rattle.tr_tracee.specs.declared.thread.Thread.{Thread}
 use Rattle.tr_tracee.specs.Lives.{is_dead, is_live}
 use Rattle.tr_tracee.specs.Threads.{in_group, is_traced}
-use Rattle.tr_model.specs.Journals.{ids_of, occurs}
+use Rattle.tr_model.specs.Journals.{occurs}
+use Rattle.tr_model.specs.Tables.{ids_of}
 use Rattle.tr_model.proofs.Measures.{total, total-append}
 use Rattle.tr_model.proofs.OneFate.{one}
 use Rattle.tr_table.specs.Held.{bool_to_nat}

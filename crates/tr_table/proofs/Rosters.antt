@@ -6,9 +6,9 @@ use Rattle.tr_tracee.specs.declared.thread.Thread.{Thread}
 use Rattle.tr_tracee.specs.Lives.{is_dead}
 use Rattle.tr_tracee.specs.Threads.{in_group}
 use Rattle.tr_group.specs.Members.{at_place, count_in, member, put_member, put_place}
-use Rattle.tr_model.specs.Journals.{ids_of, occurs}
+use Rattle.tr_model.specs.Journals.{occurs}
 use Rattle.tr_model.specs.Moves.{changed, dropped, in_leaders_row, renamed}
-use Rattle.tr_model.specs.Tables.{thread_in}
+use Rattle.tr_model.specs.Tables.{ids_of, thread_in}
 use Rattle.tr_model.proofs.Ids.{has_id}
 use Rattle.tr_model.proofs.Measures.{total, total-append, total_dropped, total_filter, total_less, total_same}
 use Rattle.tr_model.proofs.OneFate.{one}

@@ -4,8 +4,8 @@ use Rattle.std.specs.List.{list_any}
 use Rattle.std.proofs.lemmas.List.{length-map, take_more}
 use Rattle.tr_tracee.specs.declared.thread.Thread.{Thread}
 use Rattle.tr_tracee.specs.Lives.{is_dead}
-use Rattle.tr_model.specs.Journals.{ids_of, occurs}
-use Rattle.tr_model.specs.Tables.{thread_in}
+use Rattle.tr_model.specs.Journals.{occurs}
+use Rattle.tr_model.specs.Tables.{ids_of, thread_in}
 use Rattle.tr_table.proofs.GroupLists.{new_at}
 
 pub ids_written : (ts : List Thread) (i : ℕ) (d y : Thread) → y.id ≡ (get_or ts i d).id → i < length ts → ids_of (set ts i y) ≡ ids_of ts

@@ -5,7 +5,8 @@ use Rattle.std.specs.List.Sorted.{IsPartitionPoint, IsPartitionedBy}
 use Rattle.std.proofs.lemmas.Bool.{cases_eq, cases_lt, le-ltb, lt-ltb, ne_eqb}
 use Rattle.std.proofs.lemmas.List.{length-set}
 use Rattle.tr_tracee.specs.declared.thread.Thread.{Thread}
-use Rattle.tr_model.specs.Journals.{ids_of, occurs}
+use Rattle.tr_model.specs.Journals.{occurs}
+use Rattle.tr_model.specs.Tables.{ids_of}
 use Rattle.tr_model.proofs.Measures.{total, total-append}
 use Rattle.tr_table.specs.Held.{bool_to_nat}
 use Rattle.tr_table.specs.Tracing.{IsMultiset, MultisetView, is_before, is_number, relisted}

@@ -4,7 +4,8 @@ use Rattle.std.specs.List.Sorted.{IsPartitionedBy}
 use Rattle.std.proofs.lemmas.List.{length-set}
 use Rattle.std.proofs.lemmas.List.Edits.{length-remove}
 use Rattle.tr_tracee.specs.declared.thread.Thread.{Thread}
-use Rattle.tr_model.specs.Journals.{ids_of, occurs}
+use Rattle.tr_model.specs.Journals.{occurs}
+use Rattle.tr_model.specs.Tables.{ids_of}
 use Rattle.tr_table.specs.Held.{bool_to_nat}
 use Rattle.tr_table.specs.Tracing.{HasPlace, HasPlaces, IsMultiset, IsTracing, MultisetView, TracingView, is_before, is_number, is_reporting, relisted, tracer, waiter}
 use Rattle.tr_table.proofs.Keeping.{fewer_kept}

@@ -5,7 +5,8 @@ use Rattle.tr_tracee.specs.Threads.{in_group}
 use Rattle.tr_model.specs.declared.rows.Group.{Group}
 use Rattle.tr_table.specs.declared.pending.Pending.{Pending}
 use Rattle.tr_table.specs.Slots.{IsPending, standing}
-use Rattle.tr_model.specs.Journals.{AllUpTo, ids_of, occurs}
+use Rattle.tr_model.specs.Journals.{AllUpTo, occurs}
+use Rattle.tr_model.specs.Tables.{ids_of}
 
 -- what waits is kept as it should be, and was accepted
 pub record IsOrdered (pending : Pending) (accepted : ℕ) : Type 0 where

@@ -8,8 +8,8 @@ use Rattle.tr_model.specs.declared.fates.Fate.TheVariants.{Flushed}
 use Rattle.tr_model.specs.declared.rows.Group.{Group}
 use Rattle.tr_group.specs.GroupStops.{is_stopping}
 use Rattle.tr_model.specs.Moves.{changed, dropped, group_changed, ended_by_change, in_leaders_row, renamed}
-use Rattle.tr_model.specs.Tables.{group_in, thread_in}
-use Rattle.tr_model.specs.Journals.{ids_of, occurs}
+use Rattle.tr_model.specs.Tables.{group_in, ids_of, thread_in}
+use Rattle.tr_model.specs.Journals.{occurs}
 use Rattle.tr_tracee.specs.Threads.{in_group}
 use Rattle.tr_table.specs.Rosters.{RosterView, roster_in, roster_of}
 use Rattle.tr_table.specs.Tracing.{HasPlaces, IsTracing, TracingView}

@@ -4,7 +4,7 @@ use Rattle.std.specs.Map.{lookup}
 use Rattle.tr_tracee.specs.declared.thread.Thread.{Thread}
 use Rattle.tr_tracee.specs.Lives.{is_dead, is_live}
 use Rattle.tr_tracee.specs.Threads.{is_traced}
-use Rattle.tr_model.specs.Journals.{ids_of}
+use Rattle.tr_model.specs.Tables.{ids_of}
 use Rattle.tr_table.specs.Held.{bool_to_nat}
 
 -- the ids of a group's threads, in table order, and how many are live, are dead, are traced, and have a stop mark

@@ -3,8 +3,8 @@ use Rattle.std.specs.Prelude.{◌≡◌, ℕ, ◌<◌, ◌≤◌, ◌==◌, ◌&
 use Rattle.std.specs.List.{insert, list_any}
 use Rattle.tr_tracee.specs.declared.thread.Thread.{Thread}
 use Rattle.tr_tracee.specs.Threads.{is_tracee_of, tracer_of}
-use Rattle.tr_model.specs.Journals.{ids_of, occurs}
-use Rattle.tr_model.specs.Tables.{thread_in}
+use Rattle.tr_model.specs.Journals.{occurs}
+use Rattle.tr_model.specs.Tables.{ids_of, thread_in}
 use Rattle.tr_table.specs.Waits.{is_report}
 
 -- numbers, each as often as it counts, and how many there are places for

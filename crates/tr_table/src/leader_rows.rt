@@ -1,8 +1,7 @@
 ghost use Rattle.std.specs.Prelude.{◌≡◌, ◌<◌, length, Some, get_or, map, remove};
 ghost use Rattle.tr_tracee.specs.Lives.{is_dead};
-ghost use Rattle.tr_model.specs.Journals.{ids_of};
 ghost use Rattle.tr_model.specs.Moves.{dropped, in_leaders_row};
-ghost use Rattle.tr_model.specs.Tables.{thread_in};
+ghost use Rattle.tr_model.specs.Tables.{ids_of, thread_in};
 ghost use Rattle.tr_table.specs.Private.{IsLeaderPlace, IsThreads};
 ghost use Rattle.tr_table.specs.Tracing.{HasPlaces, IsTracing};
 

@@ -4,8 +4,8 @@ ghost use Rattle.std.specs.List.{list_all, list_any};
 ghost use Rattle.tr_sigset.specs.Sets.{has};
 ghost use Rattle.tr_tracee.specs.Lives.{is_dead, is_live};
 ghost use Rattle.tr_tracee.specs.Threads.{in_group, is_traced};
-ghost use Rattle.tr_model.specs.Journals.{ids_of, occurs};
-ghost use Rattle.tr_model.specs.Tables.{thread_in};
+ghost use Rattle.tr_model.specs.Journals.{occurs};
+ghost use Rattle.tr_model.specs.Tables.{ids_of, thread_in};
 
 use crate::threads::Threads;
 use arrayvec::ArrayVec;

@@ -1,8 +1,9 @@
 ghost use Rattle.std.specs.Prelude.{filter, ◌≡◌, ℕ, ◌-◌, ◌≤◌, IfOk, IsTrue, length, map};
 ghost use Rattle.std.specs.List.{list_all};
 ghost use Rattle.tr_tracee.specs.Threads.{in_group};
-ghost use Rattle.tr_model.specs.Journals.{ids_of, occurs};
+ghost use Rattle.tr_model.specs.Journals.{occurs};
 ghost use Rattle.tr_model.specs.Sends.{set_at};
+ghost use Rattle.tr_model.specs.Tables.{ids_of};
 ghost use Rattle.tr_table.specs.Starts.{all_started, group_started, is_good, name_fits, name_of, table_of, thread_started, threads_started, with_actions};
 
 use crate::group_list::Groups;

@@ -1,7 +1,8 @@
 ghost use Rattle.std.specs.Prelude.{List, ◌≡◌, ◌==◌, ℕ, ◌+◌, ◌<◌, ◌≤◌, ◌++◌, ◌∷◌, [], OnOk, filter, get_or, length, not, remove, slice_set, vec_capacity, vec_len};
 ghost use Rattle.std.specs.List.Sorted.{IsPartitionedBy};
 ghost use Rattle.tr_tracee.specs.declared.thread.Thread.{Thread};
-ghost use Rattle.tr_model.specs.Journals.{ids_of, occurs};
+ghost use Rattle.tr_model.specs.Journals.{occurs};
+ghost use Rattle.tr_model.specs.Tables.{ids_of};
 ghost use Rattle.tr_table.specs.Held.{bool_to_nat};
 ghost use Rattle.tr_table.specs.Tracing.{HasPlace, HasPlaces, IsTracing, is_before, relisted, tracer, waiter};
 

@@ -2,7 +2,7 @@ use Rattle.std.proofs.Common.{◌≡◌, ◌==◌, ◌+◌, ◌<◌, ◌≤◌, 
 use Rattle.std.proofs.lemmas.Bool.{ne_eqb}
 use Rattle.tr_tracee.specs.declared.thread.Thread.{Thread}
 use Rattle.tr_tracee.specs.Threads.{in_group}
-use Rattle.tr_model.specs.Journals.{ids_of}
+use Rattle.tr_model.specs.Tables.{ids_of}
 use Rattle.tr_model.specs.Moves.{renamed}
 use Rattle.tr_table.specs.Private.{IsLeaderPlace, IsThreads}
 use Rattle.tr_table.specs.Rosters.{Counts, rewritten, roster_in, roster_of, unless_empty, without}

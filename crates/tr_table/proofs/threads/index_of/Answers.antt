@@ -1,7 +1,7 @@
 use Rattle.std.proofs.Common.{◌≡◌, ◌==◌, ◌∙◌, ◌++◌, ◌∷◌, [], ℕ, List, sym, take, get_or, arith, ap}
 use Rattle.std.specs.List.{list_any}
 use Rattle.tr_tracee.specs.declared.thread.Thread.{Thread}
-use Rattle.tr_model.specs.Journals.{ids_of}
+use Rattle.tr_model.specs.Tables.{ids_of}
 use Rattle.tr_table.proofs.ThreadLists.{ids_more, new_id_at}
 use Rattle.tr_table.proofs.threads.index_of.Goals as goal
 

@@ -1,5 +1,5 @@
 use Rattle.std.proofs.Common.{◌≡◌, take}
-use Rattle.tr_model.specs.Journals.{ids_of}
+use Rattle.tr_model.specs.Tables.{ids_of}
 use Rattle.tr_table.proofs.threads.index_of.Given as goal
 
 abbrev pub invariant-loop-thread : goal.invariant-loop-thread

@@ -1,6 +1,7 @@
 use Rattle.std.proofs.Common.{◌≡◌, ◌==◌, ◌≤◌, ◌∙◌, ℕ, List, false, filter, find, not, ap, subst, sym}
 use Rattle.tr_tracee.specs.declared.thread.Thread.{Thread}
-use Rattle.tr_model.specs.Journals.{ids_of, occurs}
+use Rattle.tr_model.specs.Journals.{occurs}
+use Rattle.tr_model.specs.Tables.{ids_of}
 use Rattle.tr_table.specs.Tracing.{first_of, is_reporting, reports}
 use Rattle.tr_table.proofs.Reports.{first_listed, is_zero, none_waits}
 use Rattle.tr_table.proofs.threads.Threads.first_reporting.Goals as goal

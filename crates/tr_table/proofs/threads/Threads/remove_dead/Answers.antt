@@ -1,7 +1,8 @@
 use Rattle.std.proofs.Common.{◌≡◌, ◌==◌, ◌&&◌, ◌≤◌, ◌∙◌, List, Some, true, false, filter, not, remove, get_or, ap, subst, sym}
 use Rattle.tr_tracee.specs.declared.thread.Thread.{Thread}
 use Rattle.tr_tracee.specs.Lives.{is_dead}
-use Rattle.tr_model.specs.Journals.{ids_of, occurs}
+use Rattle.tr_model.specs.Journals.{occurs}
+use Rattle.tr_model.specs.Tables.{ids_of}
 use Rattle.tr_table.specs.Private.{IsPlace}
 use Rattle.tr_table.proofs.ThreadLists.{dead_goes, living_stays, none_goes}
 use Rattle.tr_table.proofs.threads.Threads.remove_dead.Goals as goal

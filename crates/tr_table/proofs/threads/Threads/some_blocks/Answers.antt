@@ -5,8 +5,8 @@ use Rattle.tr_sigset.specs.Sets.{has}
 use Rattle.tr_tracee.specs.declared.thread.Thread.{Thread}
 use Rattle.tr_tracee.specs.Lives.{is_dead, is_live}
 use Rattle.tr_tracee.specs.Threads.{in_group}
-use Rattle.tr_model.specs.Journals.{ids_of, occurs}
-use Rattle.tr_model.specs.Tables.{thread_in}
+use Rattle.tr_model.specs.Journals.{occurs}
+use Rattle.tr_model.specs.Tables.{ids_of, thread_in}
 use Rattle.tr_table.specs.Rosters.{RosterView}
 use Rattle.tr_table.proofs.ByIds.{any_found}
 use Rattle.tr_table.proofs.threads.Threads.some_blocks.Goals as goal
