@@ -22,11 +22,10 @@ use tr_tracee::{Report, Thread};
 use tr_wait::{Status, WaitFlags, Which};
 
 /// Whether the wait asks for the group, and its leader is in the table.
-fn is_led(table: &Table, which: Which, group: &Group) -> bool
-    ensures { result
-        ≡ (asks_for which group.now.tgid && is_some (thread_of table.now.table group.now.tgid)) }
+fn is_led(which: Which, group: &Group, leader: Option<&Thread>) -> bool
+    ensures { result ≡ (asks_for which group.now.tgid && is_some (option_copied leader.entry)) }
 {
-    which.asks_for(group.tgid) && table.find(group.tgid).is_some()
+    which.asks_for(group.tgid) && leader.is_some()
 }
 
 fn has_led(table: &Table, groups: &[Group], which: Which) -> bool
@@ -34,7 +33,7 @@ fn has_led(table: &Table, groups: &[Group], which: Which) -> bool
         ≡ list_any
         (λ g. asks_for which g.tgid && is_some (thread_of table.now.table g.tgid)) groups.now }
 {
-    groups.iter().any(|g| is_led(table, which, g))
+    groups.iter().any(|g| is_led(which, g, table.find(g.tgid)))
 }
 
 /// The report of a dead leader that nobody traces.
@@ -102,10 +101,16 @@ fn note_of(table: &Table, flags: WaitFlags, group: &Group) -> Option<u64>
 
 /// The report of a group that comes first: the leader's death, then the note.
 #[tactic(auto, using(crate::proofs::Firsts::first_append))]
-fn ready_of_group(table: &Table, flags: WaitFlags, group: &Group) -> Option<u64>
+fn ready_of_group(
+    table: &Table,
+    flags: WaitFlags,
+    group: &Group,
+    leader: Option<&Thread>,
+) -> Option<u64>
+    requires { option_copied leader ≡ thread_of table.now.table group.now.tgid }
     ensures { result ≡ first_number (ready_of_group table.now.table flags group.now) }
 {
-    match death_of(table.find(group.tgid)) {
+    match death_of(leader) {
         Some(number) => Some(number),
         None => note_of(table, flags, group),
     }
@@ -119,8 +124,9 @@ fn first_for_starter(table: &Table, groups: &[Group], which: Which, flags: WaitF
         (led_among table.now.table which groups.now)) }
 {
     for group in groups {
-        if is_led(table, which, group) {
-            if let Some(number) = ready_of_group(table, flags, group) {
+        let leader = table.find(group.tgid);
+        if is_led(which, group, leader) {
+            if let Some(number) = ready_of_group(table, flags, group, leader) {
                 return Some(number);
             }
         }
@@ -140,7 +146,7 @@ pub(crate) fn ready_death<'a>(
 {
     for group in groups {
         let leader = table.find(group.tgid);
-        if is_led(table, which, group) && is_death(leader, number) {
+        if is_led(which, group, leader) && is_death(leader, number) {
             return leader;
         }
     }
@@ -150,7 +156,7 @@ pub(crate) fn ready_death<'a>(
 fn shows_note(table: &Table, which: Which, flags: WaitFlags, group: &Group) -> bool
     ensures { result ≡ shows_note table.now.table which flags group.now }
 {
-    is_led(table, which, group) && is_note_shown(table, flags, group)
+    is_led(which, group, table.find(group.tgid)) && is_note_shown(table, flags, group)
 }
 
 /// The first of the groups that the starter asks for that has the note of this number.
@@ -165,7 +171,7 @@ pub(crate) fn ready_note<'a>(
         ≡ with_note (filter (shows_note table.now.table which flags) groups.now) number }
 {
     for group in groups {
-        if shows_note(table, which, flags, group) && is_numbered(&group.note, number) {
+        if is_numbered(&group.note, number) && shows_note(table, which, flags, group) {
             return Some(group);
         }
     }
