@@ -1,3 +1,4 @@
+mod foreseen;
 mod heard;
 mod kills;
 mod laws;

@@ -1,5 +1,6 @@
 pub mod Answers
 pub mod Fates
+pub mod Foreseen
 pub mod Heard
 pub mod Kept
 pub mod Laws

@@ -124,7 +124,7 @@ fn is_attached(step: &Step, tid: u32, told: &Reply) -> bool
 }
 
 /// The reply of an event that sends nothing, with this choice.
-fn reply_without_send(table: &Table, actor: u32, event: &Event, choice: Choice) -> Reply
+pub(crate) fn reply_without_send(table: &Table, actor: u32, event: &Event, choice: Choice) -> Reply
     ensures { result ≡ reply_without_send table.now.table actor event.now choice }
 {
     let n = choice.instance().unwrap_or(0);

@@ -1,4 +1,4 @@
-ghost use Rattle.std.specs.Prelude.{◌≡◌, ◌++◌, ◌+◌, ◌-◌, ◌<◌, ◌≤◌, ◌∷◌, [], None, OnErr, OnOk, length, slice_get, slice_index_or};
+ghost use Rattle.std.specs.Prelude.{◌≡◌, ◌++◌, ◌+◌, ◌-◌, ◌<◌, ◌≤◌, ◌∷◌, [], None, OnErr, OnOk, length, nat_le, slice_get, slice_index_or};
 ghost use Rattle.tr_kernel.specs.Kept.{IsToldBy};
 
 use crate::lists::{append, at_position};
@@ -62,6 +62,13 @@ impl Journal {
         ensures { result.now ≡ self.now.entries }
     {
         self.entries.as_slice()
+    }
+
+    /// Whether it has as many entries as this limit.
+    pub(crate) fn is_full(&self, limit: u32) -> bool
+        ensures { result ≡ nat_le limit (length self.now.entries) }
+    {
+        self.entries.len() >= limit as usize
     }
 
     /// The entry at a place, from 0.

@@ -5,11 +5,12 @@ ghost use Rattle.tr_model.specs.declared.replies.Refusal.{Refusal};
 ghost use Rattle.tr_model.specs.Journals.{HasFate, consumed_by, ended_by, fate_of, occurs, totals};
 ghost use Rattle.tr_model.specs.Laws.{OneFate};
 ghost use Rattle.tr_model.specs.Causes.{cause_of};
-ghost use Rattle.tr_model.specs.Compare.{IsLet, Permits};
+ghost use Rattle.tr_model.specs.Compare.{IsLet, Permits, entry_for};
 ghost use Rattle.tr_model.specs.Preferred.{check};
 ghost use Rattle.tr_table.specs.Starts.{is_good, table_of};
 ghost use Rattle.tr_kernel.specs.declared.answers.Answer.TheVariants.{Refused};
 ghost use Rattle.tr_kernel.specs.Answers.{IfEntered, IfRead, IfRefused, IsReceipt};
+ghost use Rattle.tr_kernel.specs.Foreseen.{foreseen, foreseen_entry};
 ghost use Rattle.tr_kernel.specs.Heard.{IsHeard, call_of};
 ghost use Rattle.tr_kernel.specs.Laws.{KillsAt, RaisedBefore, WaitsAt, consumed_at};
 ghost use Rattle.tr_kernel.specs.Notes.{notes_of};
@@ -20,6 +21,7 @@ use crate::answers::{Answer, Receipt};
 use crate::entries::{report_of, write_entry};
 use crate::events::check;
 use crate::fates::Fates;
+use crate::foreseen::reply_before;
 use crate::hearing::{choice_of, is_admitted, is_refusal, is_reply};
 use crate::journal::Journal;
 use crate::notes::{EntryFact, Notes, Stopped, fact_in, is_killed};
@@ -283,6 +285,28 @@ impl Kernel {
         }
     }
 
+    /// Gives the answer that `step` would give to a call now if memory is given, and changes nothing.
+    pub fn foresee(&self, actor: u32, event: &Event) -> Result<Reply, Refusal>
+        ensures foreseen { result ≡ foreseen self.now (call_of actor event.now) }
+        ensures history { IsHistory self.now }
+    {
+        match check(self.step.table(), actor, event)? {
+            Checked::Quiet(reply) => Ok(reply),
+            Checked::Due(choice) => self.foresee_entry(actor, event, choice),
+        }
+    }
+
+    /// Gives the reply of the entry that is due, or `JournalFull`.
+    fn foresee_entry(&self, actor: u32, event: &Event, choice: Choice) -> Result<Reply, Refusal>
+        requires due { Permits self.now.table actor event.now choice }
+        ensures { result ≡ foreseen_entry self.now (entry_for (call_of actor event.now) choice) }
+    {
+        if self.journal.is_full(self.step.table().entries()) {
+            return Err(Refusal::JournalFull);
+        }
+        Ok(reply_before(&self.step, actor, event, choice))
+    }
+
     /// Hears what another system answered to a call of an actor, and says whether the model lets the call have that
     /// answer: a refusal, an answer without an entry, or the reply of a step, whatever was chosen. Where it is that of a
     /// step the kernel makes that step, else nothing changes.
@@ -351,7 +375,7 @@ impl Kernel {
         ensures bounded { AcceptsFew self.old.table self.new.table }
         ensures history { IsHistory self.new }
     {
-        if self.journal.entries().len() >= self.step.table().entries() as usize {
+        if self.journal.is_full(self.step.table().entries()) {
             return Err(Refusal::JournalFull);
         }
         self.enter(actor, event, choice)

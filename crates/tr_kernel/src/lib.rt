@@ -5,6 +5,7 @@ mod answers;
 mod entries;
 mod events;
 mod fates;
+mod foreseen;
 mod hearing;
 mod journal;
 mod kernels;
