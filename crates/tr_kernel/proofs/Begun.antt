@@ -1,5 +1,5 @@
 -- The table of a good start is one that nothing has happened to.
-use Rattle.std.proofs.Common.{ℕ, ◌+◌, ◌≤◌, List, [], ◌∷◌, ◌++◌, length, map, nat_le, refl, sym, ap, arith, subst}
+use Rattle.std.proofs.Common.{ℕ, ◌≤◌, List, [], ◌∷◌, ◌++◌, length, map, nat_le, refl, sym, ap, arith, subst}
 use Rattle.std.proofs.lemmas.Bool.{and_parts, leb-true}
 use Rattle.std.proofs.lemmas.List.{length-map}
 use Rattle.std.specs.Prelude.{IsTrue}

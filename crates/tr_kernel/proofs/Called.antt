@@ -1,7 +1,7 @@
 -- A step of a kernel, as a call of a run.
 use Rattle.std.proofs.Common.{◌≡◌, ◌⊎◌, ◌∙◌, ◌≤◌, ◌<◌, ◌+◌, ℕ, List, [], ◌∷◌, ◌++◌, ap, refl, inl, inr, length, length-append, nat_le, true, false, Option, Some, None, Ok, Err, arith}
 use Rattle.std.proofs.lemmas.Bool.Decides.{nat_tests}
-use Rattle.tr_model.specs.declared.checked.Checked.TheVariants.{Quiet, Due}
+use Rattle.tr_model.specs.declared.checked.Checked.TheVariants.{Quiet}
 use Rattle.tr_model.specs.Choices.{Choice}
 use Rattle.tr_model.specs.declared.events.Event.{Event}
 use Rattle.tr_model.specs.declared.replies.Refusal.{Refusal}
@@ -12,6 +12,7 @@ use Rattle.tr_model.specs.Preferred.{check, preferred, quiet_or, refused_or}
 use Rattle.tr_model.specs.Runs.{Answer, Call, Entered, Read, Refused, call_by, made, unless_full}
 use Rattle.tr_model.specs.Runs as runs
 use Rattle.tr_kernel.specs.States.{State, IsDue, IsEntered, IsQuiet, IsRefusal, entry_of}
+use Rattle.tr_kernel.proofs.Checks.{checked_due}
 
 -- a kernel as a run so far, with the answers to its calls
 abbrev pub run_at : State → List Answer → runs.State
@@ -21,9 +22,6 @@ run_at k xs = record { table = k.table; journal = k.journal; answers = xs }
 
 checked_quiet : (why : Option Refusal) (quiet : Option Reply) (x : Choice) (r : Reply) → why ≡ None → quiet ≡ Some r → refused_or why (quiet_or quiet x) ≡ Ok (Quiet r)
 checked_quiet why quiet x r h k = rw (h, k) refl
-
-checked_due : (why : Option Refusal) (quiet : Option Reply) (x : Choice) → why ≡ None → quiet ≡ None → refused_or why (quiet_or quiet x) ≡ Ok (Due x)
-checked_due why quiet x h k = rw (h, k) refl
 
 checked_refused : (why : Option Refusal) (quiet : Option Reply) (x : Choice) (r : Refusal) → why ≡ Some r → refused_or why (quiet_or quiet x) ≡ Err r
 checked_refused why quiet x r h = rw h refl

@@ -78,8 +78,8 @@ same_report c r u e f = e ∙ ap gives_report (same_Some r u (sym (ap (λ x. x.r
 
 -- What is due with an admitted choice
 
-due_made : (o : Option Refusal) (q : Option Reply) (c : Choice) → o ≡ None → q ≡ None → refused_or o (quiet_or q c) ≡ Ok (Due c)
-due_made o q c e f = rw (e, f) refl
+pub checked_due : (o : Option Refusal) (q : Option Reply) (c : Choice) → o ≡ None → q ≡ None → refused_or o (quiet_or q c) ≡ Ok (Due c)
+checked_due o q c e f = rw (e, f) refl
 
 pub permits_fixed : (T : Table) (a : ℕ) (e : Event) (c : Choice) → Permits T a e c → IsFixed T a e c
 permits_fixed T a (Take id) c p = tt
@@ -87,4 +87,4 @@ permits_fixed T a (TakeAny g) c p = tt
 permits_fixed T a (Wait which) c p = tt
 permits_fixed T a (StarterWait which flags) c p = tt
 permits_fixed T a (CloneThread id) c p = tt
-permits_fixed T a _ c p = due_made _ _ _ p.no_cause p.not_quiet ∙ ap (λ (x : Choice). Ok (Due x)) (sym p.admitted)
+permits_fixed T a _ c p = checked_due _ _ _ p.no_cause p.not_quiet ∙ ap (λ (x : Choice). Ok (Due x)) (sym p.admitted)

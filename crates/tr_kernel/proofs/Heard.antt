@@ -2,6 +2,7 @@
 use Rattle.std.proofs.Common.{◌≡◌, ◌∙◌, ◌&&◌, ◌||◌, ◌++◌, ◌≤◌, ℕ, List, [], ◌∷◌, Bool, true, false, Option, Some, None, is_some, Result, Ok, Err, refl, sym, ap, subst, inl, inr}
 use Rattle.std.specs.Prelude.{◌↔◌, ℤ, IsTrue}
 use Rattle.std.proofs.lemmas.Bool.{and_from, and_parts, true≢false}
+use Rattle.std.proofs.lemmas.Option.{none-some, same_Some}
 use Rattle.tr_wait.specs.declared.waits.WaitFlags.{WaitFlags}
 use Rattle.tr_wait.specs.declared.waits.Which.{Which}
 use Rattle.tr_model.specs.Choices.{Choice, no_choice}
@@ -30,50 +31,44 @@ use Rattle.tr_kernel.proofs.Begun.{is_start}
 
 -- The test of the choice that a reply tells
 
-none_some : (n : ℕ) → None ≡ Some n → ⊥
-none_some n e = cc
-
-some_same : (m n : ℕ) → Some m ≡ Some n → m ≡ n
-some_same m n e = cc
-
 never : {A : Type 0} → (A → ⊥) → (false ≡ true) ↔ A
 never f = (λ e. absurd (true≢false (sym e)), λ a. absurd (f a))
 
 no_take : (T : Table) (a id : ℕ) → Admits T a (event.Take id) no_choice → ⊥
-no_take T a id h = none_some h.0 (ap (λ (c : Choice). c.instance) h.1)
+no_take T a id h = none-some h.0 (ap (λ (c : Choice). c.instance) h.1)
 
 no_take_any : (T : Table) (a g : ℕ) → Admits T a (event.TakeAny g) no_choice → ⊥
-no_take_any T a g h = none_some h.0 (ap (λ (c : Choice). c.thread) h.2)
+no_take_any T a g h = none-some h.0 (ap (λ (c : Choice). c.thread) h.2)
 
 no_wait : (T : Table) (a : ℕ) (which : Which) → Admits T a (event.Wait which) no_choice → ⊥
-no_wait T a which h = none_some h.0 (ap (λ (c : Choice). c.report) h.1)
+no_wait T a which h = none-some h.0 (ap (λ (c : Choice). c.report) h.1)
 
 no_starter : (T : Table) (a : ℕ) (which : Which) (flags : WaitFlags) → Admits T a (event.StarterWait which flags) no_choice → ⊥
-no_starter T a which flags h = none_some h.0 (ap (λ (c : Choice). c.report) h.1)
+no_starter T a which flags h = none-some h.0 (ap (λ (c : Choice). c.report) h.1)
 
 no_clone : (T : Table) (a id : ℕ) → Admits T a (event.CloneThread id) no_choice → ⊥
-no_clone T a id h = none_some h.0 (ap (λ (c : Choice). c.new_id) h.1)
+no_clone T a id h = none-some h.0 (ap (λ (c : Choice). c.new_id) h.1)
 
 test_is_exact : (T : Table) (a : ℕ) (e : Event) (r : Reply) → (admits_told T a e r ≡ true) ↔ Admits T a e (choice_of e r)
 test_is_exact T a (event.Take id) (reply.Took t i d) =
-    (λ e. (i.n, refl, e), λ h. subst (λ n. takes T (thread_of T id) n ≡ true) (sym (some_same i.n h.0 (ap (λ (c : Choice). c.instance) h.1))) h.2)
+    (λ e. (i.n, refl, e), λ h. subst (λ n. takes T (thread_of T id) n ≡ true) (sym (same_Some i.n h.0 (ap (λ (c : Choice). c.instance) h.1))) h.2)
 test_is_exact T a (event.Take id) _ = never (no_take T a id)
 test_is_exact T a (event.TakeAny g) (reply.Took t i d) = (
   λ e. let p = and_parts (is_in g (thread_of T t)) (takes T (thread_of T t) i.n) e in (t, i.n, refl, p.0, p.1),
   λ h.
-      let who : t ≡ h.0 = some_same t h.0 (ap (λ (c : Choice). c.thread) h.2) in
-      let what : i.n ≡ h.1 = some_same i.n h.1 (ap (λ (c : Choice). c.instance) h.2) in
+      let who : t ≡ h.0 = same_Some t h.0 (ap (λ (c : Choice). c.thread) h.2) in
+      let what : i.n ≡ h.1 = same_Some i.n h.1 (ap (λ (c : Choice). c.instance) h.2) in
       subst (λ k. (is_in g (thread_of T k) && takes T (thread_of T k) i.n) ≡ true) (sym who) (subst (λ n. (is_in g (thread_of T h.0) && takes T (thread_of T h.0) n) ≡ true) (sym what) (and_from _ _ h.3 h.4)),
 )
 test_is_exact T a (event.TakeAny g) _ = never (no_take_any T a g)
 test_is_exact T a (event.Wait which) (reply.Waited id w r) =
-    (λ e. (r, refl, e), λ h. subst (λ n. is_some (ready_thread T a which n) ≡ true) (sym (some_same r h.0 (ap (λ (c : Choice). c.report) h.1))) h.2)
+    (λ e. (r, refl, e), λ h. subst (λ n. is_some (ready_thread T a which n) ≡ true) (sym (same_Some r h.0 (ap (λ (c : Choice). c.report) h.1))) h.2)
 test_is_exact T a (event.Wait which) _ = never (no_wait T a which)
 test_is_exact T a (event.StarterWait which flags) (reply.Waited id w r) =
-    (λ e. (r, refl, e), λ h. subst (λ n. (is_some (ready_death T which n) || is_some (ready_note T which flags n)) ≡ true) (sym (some_same r h.0 (ap (λ (c : Choice). c.report) h.1))) h.2)
+    (λ e. (r, refl, e), λ h. subst (λ n. (is_some (ready_death T which n) || is_some (ready_note T which flags n)) ≡ true) (sym (same_Some r h.0 (ap (λ (c : Choice). c.report) h.1))) h.2)
 test_is_exact T a (event.StarterWait which flags) _ = never (no_starter T a which flags)
 test_is_exact T a (event.CloneThread id) (reply.Cloned new) =
-    (λ e. (new, refl, e), λ h. subst (λ n. is_new T n ≡ true) (sym (some_same new h.0 (ap (λ (c : Choice). c.new_id) h.1))) h.2)
+    (λ e. (new, refl, e), λ h. subst (λ n. is_new T n ≡ true) (sym (same_Some new h.0 (ap (λ (c : Choice). c.new_id) h.1))) h.2)
 test_is_exact T a (event.CloneThread id) _ = never (no_clone T a id)
 test_is_exact T a _ r = (λ e. refl, λ h. refl)
 
@@ -121,20 +116,11 @@ waiting_accepted k h =
 
 -- What hearing comes to
 
-both : {A : Type 0} (x : A) (o : Option A) → o ≡ None → o ≡ Some x → ⊥
-both x o e f = cc
-
 one_cause : (v w : Refusal) (o : Option Refusal) → o ≡ Some v → o ≡ Some w → v ≡ w
-one_cause v w o e f = same (sym e ∙ f)
-  where
-    same : Some v ≡ Some w → v ≡ w
-    same h = cc
+one_cause v w o e f = same_Some v w (sym e ∙ f)
 
 one_reply : (x y : Reply) (o : Option Reply) → o ≡ Some x → o ≡ Some y → x ≡ y
-one_reply x y o e f = same (sym e ∙ f)
-  where
-    same : Some x ≡ Some y → x ≡ y
-    same h = cc
+one_reply x y o e f = same_Some x y (sym e ∙ f)
 
 pub heard_refused : (k : State) (a : ℕ) (e : Event) (told : Result Reply Refusal) (why : Refusal) (b : Bool) → cause_of k.table a e ≡ Some why → (IsTrue b ↔ (told ≡ Err why)) → IsHeard k a e told (Ok b) k
 heard_refused k a e told why true h t = subst (λ x. IsHeard k a e x (Ok true) k) (sym (t.0 refl)) ((h, refl), (h, refl))
@@ -142,20 +128,20 @@ heard_refused k a e told why false h t = (other told t.1, refl)
   where
     other : (x : Result Reply Refusal) → (x ≡ Err why → IsTrue false) → IsLet k.table (call_of a e) x → ⊥
     other (Err w) f l = true≢false (sym (f (ap (λ (z : Refusal). Err z) (one_cause w why _ l.1.0 h))))
-    other (Ok r) f (U, inl l) = both why _ l.0 h
-    other (Ok r) f (U, inr l) = both why _ l.1.not_refused h
+    other (Ok r) f (U, inl l) = none-some why (sym l.0 ∙ h)
+    other (Ok r) f (U, inr l) = none-some why (sym l.1.not_refused ∙ h)
 
 pub heard_quiet : (k : State) (a : ℕ) (e : Event) (told : Result Reply Refusal) (r : Reply) (b : Bool) → cause_of k.table a e ≡ None → quiet_of k.table a e ≡ Some r → (IsTrue b ↔ (told ≡ Ok r)) → IsHeard k a e told (Ok b) k
 heard_quiet k a e told r true p q t = subst (λ x. IsHeard k a e x (Ok true) k) (sym (t.0 refl)) (inl (p, q, refl), inl (record { no_cause = p; quiet = q; same = refl }))
 heard_quiet k a e told r false p q t = (other told t.1, refl)
   where
     other : (x : Result Reply Refusal) → (x ≡ Ok r → IsTrue false) → IsLet k.table (call_of a e) x → ⊥
-    other (Err w) f l = both w _ p l.1.0
+    other (Err w) f l = none-some w (sym p ∙ l.1.0)
     other (Ok y) f (U, inl l) = true≢false (sym (f (ap (λ (z : Reply). Ok z) (one_reply y r _ l.1 q))))
-    other (Ok y) f (U, inr l) = both r _ l.1.not_quiet q
+    other (Ok y) f (U, inr l) = none-some r (sym l.1.not_quiet ∙ q)
 
 pub heard_wrongly : (k : State) (a : ℕ) (e : Event) (why : Refusal) → IsDue k a e → IsHeard k a e (Err why) (Ok false) k
-heard_wrongly k a e why d = (λ l. both why _ d.no_cause l.1.0, refl)
+heard_wrongly k a e why d = (λ l. none-some why (sym d.no_cause ∙ l.1.0), refl)
 
 pub let_permits : (k : State) (a : ℕ) (e : Event) (r : Reply) (c : Choice) → c ≡ choice_of e r → IsDue k a e → IsLet k.table (call_of a e) (Ok r) → Permits k.table a e c
 let_permits k a e r c f d l = record { no_cause = d.no_cause; not_quiet = d.not_quiet; admitted = subst (λ x. Admits k.table a e x) (sym f) ((one_test_decides k.table (call_of a e) r d.no_cause d.not_quiet).0 l).0 }

@@ -1,10 +1,10 @@
 -- The blocks of a list, and a scan of them.
-use Rattle.std.proofs.Common.{◌≡◌, ℕ, zero, suc, ◌+◌, ◌-◌, ◌*◌, ◌/◌, ◌<◌, ◌≤◌, Bool, true, false, nat_lt, ◌==◌, inl, inr, Some, None, List, [], ◌∷◌, ◌++◌, length, get_or, take, drop, length-drop, get_or-drop, drop-drop, mul-zero, arith, sym, ap, ◌∙◌}
+use Rattle.std.proofs.Common.{◌≡◌, ℕ, zero, suc, ◌+◌, ◌-◌, ◌*◌, ◌/◌, ◌<◌, ◌≤◌, Bool, true, false, nat_lt, inl, inr, Some, None, List, [], ◌∷◌, ◌++◌, length, get_or, take, drop, length-drop, get_or-drop, drop-drop, mul-zero, arith, sym, ap, ◌∙◌}
 use Rattle.std.specs.Simd.{first_chunks}
 use Rattle.std.specs.List.{position, position_or_len}
 use Rattle.std.proofs.Math.Nat.{mul-suc}
 use Rattle.std.proofs.Math.Seq.{take-add}
-use Rattle.std.proofs.lemmas.Bool.{cases_lt}
+use Rattle.std.proofs.lemmas.Bool.{cases_lt, lt-ltb}
 use Rattle.std.proofs.lemmas.Bool.Decides.{nat_tests}
 use Rattle.std.proofs.lemmas.List.{take_more}
 use Rattle.std.proofs.lemmas.List.Sums.{position_or_len_is}
@@ -42,16 +42,13 @@ module _ (n k : ℕ) (xs : List ℕ) (bs : List (List ℕ)) (d : List ℕ) (c : 
 
 -- a scan that has found, and one that has not
 
-below : (i n : ℕ) → i < n → nat_lt i n ≡ true
-below i n h = grind (arith, nat_tests)
-
 not_below : (n : ℕ) → nat_lt n n ≡ false
 not_below n = grind (arith, nat_tests)
 
 pub position_found : (p : ℕ → Bool) (xs : List ℕ) (i : ℕ) → i < length xs → ((k : ℕ) → k < i → p (get_or xs k 0) ≡ false) → p (get_or xs i 0) ≡ true → Some i ≡ position p xs
 position_found p xs i h before at =
     let e : position_or_len p xs ≡ i = position_or_len_is p xs i 0 (omega arith) before (λ _. at) in
-    rw e (rw (below i (length xs) h))
+    rw e (rw (lt-ltb i (length xs) h))
 
 pub position_none : (p : ℕ → Bool) (xs : List ℕ) → ((k : ℕ) → k < length xs → p (get_or xs k 0) ≡ false) → None ≡ position p xs
 position_none p xs before =
@@ -78,6 +75,3 @@ module _ (p : ℕ → Bool) (xs : List ℕ) (c r : ℕ) (h : c < length xs / 8) 
 pub one_more : (p : ℕ → Bool) (xs : List ℕ) (n j : ℕ) → ((k : ℕ) → k < n + j → p (get_or xs k 0) ≡ false) → p (get_or xs (n + j) 0) ≡ false → (k : ℕ) → k < n + (j + 1) → p (get_or xs k 0) ≡ false
 one_more p xs n j before here k h =
     elim (cases_lt k (n + j)) [ inl l ↦ before k l | inr g ↦ let e : n + j ≡ k = omega arith in ap (λ i. p (get_or xs i 0)) (sym e) ∙ here ]
-
-pub is_zero : (x : ℕ) → x ≡ 0 → (x == 0) ≡ true
-is_zero x e = ap (λ v. v == 0) e

@@ -1,10 +1,10 @@
 -- What eight lanes give for a block of eight rows.
-use Rattle.std.proofs.Common.{◌≡◌, ℕ, ◌-◌, ◌%◌, ◌^◌, suc, zero, Bool, true, false, not, ◌==◌, cond, eqb, arith, length, map, List, [], ◌∷◌, refl, sym, ap, ◌∙◌, bit_and, bit_or, lit≤}
+use Rattle.std.proofs.Common.{◌≡◌, ℕ, ◌-◌, ◌%◌, ◌^◌, suc, zero, Bool, not, ◌==◌, cond, eqb, arith, length, map, List, [], ◌∷◌, refl, sym, ap, ◌∙◌, bit_and, bit_or, lit≤}
 use Rattle.std.specs.Prelude.{replicate}
 use Rattle.std.specs.List.{position_or_len}
 use Rattle.std.specs.Int.{trailing_zeros, bit_not, w64}
 use Rattle.std.specs.Int.Bits.{and_zero_l, and_zero_r, or_zero_l}
-use Rattle.std.proofs.lemmas.Bool.Decides.{nat_tests}
+use Rattle.std.proofs.lemmas.Bool.{eq-eqb, ne_eqb}
 use Rattle.std.proofs.lemmas.List.{length-map}
 use Rattle.std.proofs.lemmas.Nat.{and_assoc, and_comm, le_or_l, le_or_r}
 use Rattle.std.proofs.lemmas.Simd.{bitmask_splat, zip2_splat, length-zip2, length-replicate, map-map, first_set_mask_l, tops_compared}
@@ -32,9 +32,6 @@ first_clear_lane block bit hits e m =
 
 -- where the rows have a bit of the mask in common, none is clear
 
-test_fails : (x : ℕ) → (x ≡ 0 → ⊥) → (x == 0) ≡ false
-test_fails x h = grind (arith, nat_tests)
-
 and_zero_once : (a x bit : ℕ) → bit_and a bit ≡ 0 → bit_and (bit_and a x) bit ≡ 0
 and_zero_once a x bit e = and_assoc bit a x ∙ ap (bit_and a) (and_comm x bit) ∙ sym (and_assoc x a bit) ∙ ap (λ v. bit_and v x) e ∙ and_zero_l x
 
@@ -46,7 +43,7 @@ pub no_clear_lane : (rows : List ℕ) (bit a : ℕ) → (bit_and (fold_l (λ a b
 no_clear_lane [] bit a ne = refl
 no_clear_lane (x ∷ rows) bit a ne =
     let clear : bit_and x bit ≡ 0 → ⊥ = λ e. ne (and_zero_all (bit_and a x) rows bit (and_assoc bit a x ∙ ap (bit_and a) e ∙ and_zero_r a)) in
-    rw (test_fails (bit_and x bit) clear) (omega (arith, no_clear_lane rows bit (bit_and a x) ne))
+    rw (ne_eqb (bit_and x bit) 0 clear) (omega (arith, no_clear_lane rows bit (bit_and a x) ne))
 
 -- the comparisons of eight words with 0
 nonzero_mask : (words : List ℕ) → length words ≡ 8 →
@@ -62,15 +59,12 @@ first_nonzero_lane words hits e m =
 
 -- where the union of the words is 0, none is another
 
-test_holds : (x : ℕ) → x ≡ 0 → (x == 0) ≡ true
-test_holds x e = ap (λ v. v == 0) e
-
 none_but_zero : (words : List ℕ) → union_of words ≡ 0 → position_or_len (λ x. not (x == 0)) words ≡ length words
 none_but_zero [] e = refl
 none_but_zero (x ∷ words) e =
     let here : x ≡ 0 = omega (arith, le_or_l x (union_of words)) in
     let there : union_of words ≡ 0 = omega (arith, le_or_r x (union_of words)) in
-    rw (test_holds x here) (omega (arith, none_but_zero words there))
+    rw (eq-eqb x 0 here) (omega (arith, none_but_zero words there))
 
 pub no_nonzero_lane : (words : List ℕ) → fold_l (λ a b. bit_or a b) 0 words ≡ 0 → position_or_len (λ x. not (x == 0)) words ≡ length words
 no_nonzero_lane words e = none_but_zero words (sym (fold_l-union 0 words ∙ or_zero_l (union_of words)) ∙ e)

@@ -5,10 +5,10 @@ use Rattle.std.specs.Int.{bit_at, bit_not, trailing_zeros, w64}
 use Rattle.std.proofs.lemmas.Nat.Bits.{bit_at-lt, and_pow, bit_at-trailing_zeros}
 use Rattle.std.proofs.lemmas.Bool.Decides.{nat_tests}
 use Rattle.std.proofs.lemmas.Bool.{cases_lt}
-use Rattle.std.proofs.lemmas.Nat.{pow_below, pow_pos}
-use Rattle.std.proofs.Math.Nat.{mod-eq_of_lt, zero-mul}
+use Rattle.std.proofs.lemmas.Nat.{pow_pos}
+use Rattle.std.proofs.Math.Nat.{zero-mul}
 use Rattle.tr_sigset.specs.Sets.{in_word}
-use Rattle.tr_sigset.proofs.Members.{in_word-union, in_word-minus, in_word-and, in_word-suc}
+use Rattle.tr_sigset.proofs.Members.{in_word-union, in_word-minus, in_word-and, in_word-suc, single_word}
 use Rattle.tr_lanes.specs.Scans.{ready_word}
 
 -- the test of a row against the word of one signal
@@ -21,9 +21,6 @@ bit_times_one b m e q = rw e (grind (arith, nat_tests))
 
 bit_times : (b m : ℕ) → b < 2 → 0 < m → (b * m == 0) ≡ not (b == 1)
 bit_times b m p q = elim (cases_lt b 1) [ inl l ↦ bit_times_zero b m (omega arith) | inr g ↦ bit_times_one b m (omega arith) q ]
-
-single_word : (s : ℕ) → 1 ≤ s → s ≤ 64 → 1 * 2 ^ (s - 1) % 2 ^ 64 ≡ 2 ^ (s - 1)
-single_word s p q = let below : 2 ^ (s - 1) < 2 ^ 64 = pow_below (s - 1) 64 (omega arith) in ap (λ w. w % 2 ^ 64) (omega arith) ∙ mod-eq_of_lt below
 
 pub row_test : (row s : ℕ) → 1 ≤ s → s ≤ 64 → (bit_and row (1 * 2 ^ (s - 1) % 2 ^ 64) == 0) ≡ not (in_word row s)
 row_test row s p q =

@@ -1,9 +1,8 @@
 -- What an entry costs: signals that it accepts, reports that it raises, threads that it adds, deaths of groups that it
 -- begins, and an id that passes to another thread.
-use Rattle.std.proofs.Common.{◌≡◌, ℕ, suc, ◌+◌, ◌<◌, ◌≤◌, List, [], ◌∷◌, ◌++◌, length, true, false, Some, None, Option, refl, sym, subst, Bool, not, ◌&&◌, ◌==◌, if◌then◌else◌, map, arith, length-append, nat_le, ◌*◌, ◌∙◌}
+use Rattle.std.proofs.Common.{◌≡◌, ℕ, suc, ◌+◌, ◌<◌, ◌≤◌, List, [], ◌∷◌, ◌++◌, length, true, false, Some, None, Option, refl, sym, subst, Bool, not, ◌&&◌, ◌==◌, if◌then◌else◌, map, arith, length-append, ◌*◌, ◌∙◌}
 use Rattle.std.proofs.Math.Nat.{suc-mul}
-use Rattle.std.proofs.lemmas.Bool.{eq-eqb}
-use Rattle.std.proofs.lemmas.Bool.Decides.{nat_tests}
+use Rattle.std.proofs.lemmas.Bool.{eq-eqb, leb-false, or_parts}
 use Rattle.std.proofs.lemmas.List.{length-map}
 use Rattle.tr_pending.specs.declared.instance.Info.{Info}
 use Rattle.tr_pending.specs.declared.instance.Instance.{Instance}
@@ -56,7 +55,7 @@ use Rattle.tr_model.specs.Tables.{Table}
 use Rattle.tr_model.specs.Takes
 use Rattle.tr_model.specs.StarterWaits
 use Rattle.tr_model.specs.Waits
-use Rattle.tr_model.proofs.Costs.{Cost, cost, nothing, both, times, Bound, neither, chain, within, less, none, after_still, then_still, branch, filter-le-length, alters, becomes, changes, regroups, notes, on_threads, ats, enters, holds, reports, spawns, removes, passing, take_places, drops, enqueues, accepts_as, ends_waiting}
+use Rattle.tr_model.proofs.Costs.{Cost, cost, nothing, both, times, Bound, chain, within, less, none, after_still, then_still, branch, filter-le-length, alters, becomes, changes, regroups, notes, on_threads, ats, enters, holds, reports, spawns, removes, passing, take_places, drops, enqueues, accepts_as, ends_waiting}
 
 -- Group-stops and deaths
 
@@ -370,12 +369,9 @@ third_false true false true e = cc
 third_false true true c e = cc
 third_false false b c e = cc
 
-below : (n : ℕ) → nat_le 1024 n ≡ false → n < 1024
-below n e = grind (arith, nat_tests)
-
 room_for : (T : Table) (o : Option Thread) → Causes.first_cause (Causes.thread_then o (λ t. Causes.script T t ++ Causes.refused_if (Causes.at_limit T t) Again ∷ [])) ≡ None → length T.threads < 1024
 room_for T None e = cc
-room_for T (Some t) e = below (length T.threads) (neither _ _ (third_false _ _ (Causes.at_limit T t) e)).0
+room_for T (Some t) e = leb-false 1024 (length T.threads) (or_parts _ _ (third_false _ _ (Causes.at_limit T t) e)).0
 
 added_small : (T : Table) (a : ℕ) (e : Event) → Causes.cause_of T a e ≡ None → length T.threads ≤ 1024 → length T.threads + (cost_of e (length T.threads)).added ≤ 1024
 added_small T a (event.CloneThread id) h l = omega (arith, room_for T (Tables.thread_of T id) h)

@@ -1,6 +1,7 @@
 -- Changes of a thread's or a group's record that no law minds.
 use Rattle.std.proofs.Common.{◌≡◌, ℕ, true, false, Some, None, Option, refl, Bool, ◌==◌, ◌⊎◌, inl, inr, sym, true≢false, ap, ◌∙◌, if◌then◌else◌}
 use Rattle.std.proofs.lemmas.Bool.{or_left, or_right}
+use Rattle.std.proofs.lemmas.Option.{none-some}
 use Rattle.tr_tracee.specs.declared.life.End.{End}
 use Rattle.tr_tracee.specs.declared.life.Life.{Life}
 use Rattle.tr_tracee.specs.declared.life.Life.TheVariants as life
@@ -117,10 +118,7 @@ execed_tame life.Execing = plain _ _ refl refl refl
 execed_tame _ = same_life _
 
 traced_stays : (o : Option Trace) (r : Trace) (a : ℕ) → Threads.tracer_of o ≡ Some a → Threads.tracer_of (TraceeStops.or_else o r) ≡ Some a
-traced_stays None r a e = absurd (no_some a e)
-  where
-    no_some : (a : ℕ) → None ≡ Some a → ⊥
-    no_some a e = cc
+traced_stays None r a e = absurd (none-some a e)
 traced_stays (Some x) r a e = e
 
 options_stay : (o : Options) (r : Option Trace) → Threads.tracer_of (TraceeStops.with_options o r) ≡ Threads.tracer_of r
@@ -209,7 +207,7 @@ calm_only id f h t = choose_calm (t.id == id) t (f t) (h t)
 pub calm_throughout : (g : ℕ) (f : Thread → Thread) → ((t : Thread) → Calm t (f t)) → (t : Thread) → Calm t (Threads.at_group g f t)
 calm_throughout g f h t = choose_calm (t.group == g) t (f t) (h t)
 
-restarted_holds : (l : Life) → held (TraceeStops.restarted_life l) ≡ None
+pub restarted_holds : (l : Life) → held (TraceeStops.restarted_life l) ≡ None
 restarted_holds (life.InStop (stop.Exit w)) = refl
 restarted_holds (life.InStop _) = refl
 restarted_holds _ = refl
@@ -221,7 +219,7 @@ restarted_told _ h = h
 pub calm_restarted : (t : Thread) → Calm t (TraceeStops.restarted t)
 calm_restarted t = record { id = refl; group = refl; holds = inl (restarted_holds t.life); reports = inl refl; told = restarted_told t.life }
 
-listening_holds : (l : Life) → held (TraceeStops.listening_life l) ≡ held l
+pub listening_holds : (l : Life) → held (TraceeStops.listening_life l) ≡ held l
 listening_holds (life.InStop (stop.Event x)) = refl
 listening_holds (life.InStop _) = refl
 listening_holds _ = refl

@@ -2,6 +2,7 @@
 use Rattle.std.proofs.Common.{◌≡◌, ◌∙◌, ◌==◌, ℕ, zero, suc, ◌<◌, List, [], ◌∷◌, Bool, true, false, ◌||◌, Option, Some, None, Result, Ok, Err, take, if◌then◌else◌, refl, sym, ap, subst, inl, inr, arith}
 use Rattle.std.specs.Prelude.{◌⊎◌, filter, is_some}
 use Rattle.std.proofs.lemmas.Bool.{and_parts, eqb-true, true≢false}
+use Rattle.std.proofs.lemmas.Option.{none-some}
 use Rattle.tr_pending.specs.declared.instance.Instance.{Instance}
 use Rattle.tr_wait.specs.declared.waits.WaitFlags.{WaitFlags}
 use Rattle.tr_wait.specs.declared.waits.Which.{Which}
@@ -126,14 +127,11 @@ replies_tell_the_choice T U e r s = tells T e.actor e.event e.choice (work_of T 
 
 -- One answer
 
-both : {A : Type 0} (x : A) (o : Option A) → o ≡ None → o ≡ Some x → ⊥
-both x o e f = cc
-
 pub answers_determine : AnswersDetermine
 answers_determine T U V c (Err why) h k = h.1 ∙ sym k.1
 answers_determine T U V c (Ok r) (inl h) (inl k) = h.2 ∙ sym k.2
-answers_determine T U V c (Ok r) (inl h) (inr k) = absurd (both r _ k.1.not_quiet h.1)
-answers_determine T U V c (Ok r) (inr h) (inl k) = absurd (both r _ h.1.not_quiet k.1)
+answers_determine T U V c (Ok r) (inl h) (inr k) = absurd (none-some r (sym k.1.not_quiet ∙ h.1))
+answers_determine T U V c (Ok r) (inr h) (inl k) = absurd (none-some r (sym h.1.not_quiet ∙ k.1))
 answers_determine T U V c (Ok r) (inr h) (inr k) =
     let x = replies_tell_the_choice T U (entry_for c h.0) r h.1 in
     let y = replies_tell_the_choice T V (entry_for c k.0) r k.1 in
@@ -143,7 +141,7 @@ pub one_test_decides : OneTestDecides
 one_test_decides T c r p q = (there, back)
   where
     there : IsLet T c (Ok r) → Admits T c.actor c.event (choice_of c.event r) × (r ≡ (after T (entry_for c (choice_of c.event r))).reply)
-    there (U, inl h) = absurd (both r _ q h.1)
+    there (U, inl h) = absurd (none-some r (sym q ∙ h.1))
     there (U, inr h) =
         let x = replies_tell_the_choice T U (entry_for c h.0) r h.1 in
         subst (λ z. Admits T c.actor c.event z × (r ≡ (after T (entry_for c z)).reply)) x (h.1.choice, h.1.reply)

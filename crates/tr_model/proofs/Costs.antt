@@ -1,6 +1,6 @@
 -- Costs of parts of steps, how they add up, and what each small move costs.
 use Rattle.std.proofs.Common.{◌≡◌, ℕ, suc, ◌+◌, ◌≤◌, List, [], ◌∷◌, length, true, false, Some, None, Option, refl, ap, Bool, not, ◌&&◌, ◌||◌, ◌==◌, if◌then◌else◌, filter, arith, length-append, nat_le, ◌*◌, ◌∙◌, true≢false}
-use Rattle.std.proofs.lemmas.Bool.{and_parts, leb-true}
+use Rattle.std.proofs.lemmas.Bool.{and_parts, leb-true, or_parts}
 use Rattle.std.proofs.lemmas.List.{length-map}
 use Rattle.std.proofs.lemmas.List.Sums.{count_by-le-length, length-filter}
 use Rattle.tr_pending.specs.declared.instance.Info.{Info}
@@ -64,10 +64,6 @@ pub record Bound (c : Cost) (w v : Work) : Type 0 where
   pub dying : length v.dying ≤ length w.dying + c.begun
   pub renamed : c.passes ≡ false → v.renamed ≡ w.renamed
 
-pub neither : (a b : Bool) → (a || b) ≡ false → (a ≡ false) × (b ≡ false)
-neither true b e = absurd cc
-neither false b e = (refl, e)
-
 -- one after the other
 pub chain : {c d : Cost} (w v x : Work) → Bound c w v → Bound d v x → Bound (both c d) w x
 chain {c = c} {d = d} w v x p q = record {
@@ -78,7 +74,7 @@ chain {c = c} {d = d} w v x p q = record {
   threads = omega (arith, p.threads, q.threads);
   groups = omega (arith, p.groups, q.groups);
   dying = omega (arith, p.dying, q.dying);
-  renamed = λ e. let n = neither c.passes d.passes e in q.renamed n.1 ∙ p.renamed n.0;
+  renamed = λ e. let n = or_parts c.passes d.passes e in q.renamed n.1 ∙ p.renamed n.0;
 }
 
 pub within : {c d : Cost} {w v : Work} → Within c d → Bound c w v → Bound d w v
@@ -158,7 +154,7 @@ length-dropped id (t ∷ ts) = go (t.id == id) (length-dropped id ts)
     go true h = omega arith
     go false h = omega (arith, h)
 
-length-group_changed : (g : ℕ) (f : Group → Group) (xs : List Group) → length (Moves.group_changed g f xs) ≡ length xs
+pub length-group_changed : (g : ℕ) (f : Group → Group) (xs : List Group) → length (Moves.group_changed g f xs) ≡ length xs
 length-group_changed g f [] = refl
 length-group_changed g f (x ∷ xs) = go (x.tgid == g) (length-group_changed g f xs)
   where

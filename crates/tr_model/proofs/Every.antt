@@ -1,5 +1,5 @@
 -- What holds of each thread, and what the moves on lists make of it.
-use Rattle.std.proofs.Common.{◌≡◌, ℕ, List, [], ◌∷◌, ◌++◌, true, false, Some, None, sym, map, filter, Bool, ◌==◌, ◌⊎◌, inl, inr, if◌then◌else◌, cond, subst}
+use Rattle.std.proofs.Common.{◌≡◌, ℕ, List, [], ◌∷◌, ◌++◌, true, false, Some, sym, map, filter, Bool, ◌==◌, ◌⊎◌, inl, inr, if◌then◌else◌, cond, subst}
 use Rattle.std.proofs.lemmas.Option.{none-some, same_Some}
 use Rattle.tr_tracee.specs.declared.thread.Thread.{Thread}
 use Rattle.tr_model.specs.Journals.{Each, IsIn}

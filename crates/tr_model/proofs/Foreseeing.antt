@@ -14,13 +14,12 @@ use Rattle.tr_wait.specs.declared.status.Status.{Status}
 use Rattle.tr_wait.specs.declared.status.Status.TheVariants as status
 use Rattle.tr_tracee.specs.declared.life.Life.{Life}
 use Rattle.tr_tracee.specs.declared.life.Life.TheVariants as life
-use Rattle.tr_tracee.specs.declared.life.Stop.{Stop}
 use Rattle.tr_tracee.specs.declared.life.Stop.TheVariants as stop
 use Rattle.tr_tracee.specs.declared.thread.Thread.{Thread}
 use Rattle.tr_tracee.specs.declared.thread.Trace.{Trace}
 use Rattle.tr_tracee.specs.Lives.{is_live}
 use Rattle.tr_tracee.specs.Marks.{cont_noted, cont_noted_life, continued, continued_life, noted}
-use Rattle.tr_tracee.specs.Stops.{may_enter, or_else, traced_by}
+use Rattle.tr_tracee.specs.Stops.{or_else, traced_by}
 use Rattle.tr_tracee.specs.Threads.{at_group, at_thread, in_group, is_traced, no_options}
 use Rattle.tr_group.specs.Actions.{ignoring}
 use Rattle.tr_model.specs.Choices.{Choice}
@@ -39,13 +38,14 @@ use Rattle.tr_model.specs.Deaths.{kill_group}
 use Rattle.tr_model.specs.Foreseen.{RepliesAreForeseen, fate_of_put, fate_of_send, fate_unless_ignored, reply_before, sent_before}
 use Rattle.tr_model.specs.GroupStops.{complete_group_stop, complete_group_stops, complete_stop, continue_all, end_stop, ended_stop, note_stop}
 use Rattle.tr_model.specs.Journals.{AllUpTo}
-use Rattle.tr_model.specs.Moves.{Work, accept_as, alter, at, begin, each, ending_of, enter_if_allowed, entered_now, enqueue, group_changed, note, on_thread, only_group, regroup, when, with_note}
+use Rattle.tr_model.specs.Moves.{Work, accept_as, alter, at, begin, each, ending_of, enqueue, group_changed, note, on_thread, only_group, regroup, when, with_note}
 use Rattle.tr_model.specs.Sends.{before_send, continue_by_signal, flush_in, is_cont, is_ignored, is_live_thread, is_open, is_open_thread, is_reachable, put, put_unless_ignored, send, send_kill, send_other}
 use Rattle.tr_model.specs.Steps.{fate_in, reply_of, work_of}
 use Rattle.tr_model.specs.Stops.{at_stop, show, show_stop, stop_with}
 use Rattle.tr_model.specs.Tables.{Table, action_of, actions_of, all_dead, group_in, group_of, group_of_thread, has_traced, is_dying, owner, owner_in, queue, same_target, stop_in_effect, thread_in, thread_of}
 use Rattle.tr_model.specs.Tracing.{attach, trace}
 use Rattle.tr_model.proofs.Among.{find_among}
+use Rattle.tr_model.proofs.Live.{entering_same}
 
 -- Moves after the send end nothing
 
@@ -74,12 +74,9 @@ ended_at id move w h = go (thread_of w.table id)
     go None = refl
     go (Some t) = h t w
 
-ended_entering : (s : Stop) (t : Thread) (w : Work) → (enter_if_allowed s t w).ended ≡ w.ended
-ended_entering s t w = elim (may_enter t.life) as (λ b. (if b then entered_now s t w else w).ended ≡ w.ended) [ true ↦ refl | false ↦ refl ]
-
 ended_at_stop : (u : Thread) (o : Option ℕ) (w : Work) → (at_stop o (stop_with u) w).ended ≡ w.ended
 ended_at_stop u None w = refl
-ended_at_stop u (Some s) w = ended_at u.id _ w (ended_entering _)
+ended_at_stop u (Some s) w = ended_at u.id _ w (entering_same _)
 
 ended_show : (t : Thread) (w : Work) → (show_stop t w).ended ≡ w.ended
 ended_show t w = ended_when _ (show t) w (λ v. ended_at t.id _ v (λ u x. ended_at_stop u (stop_in_effect v.table t.group) x))

@@ -1,6 +1,7 @@
 -- No two threads have one id.
 use Rattle.std.proofs.Common.{◌≡◌, ℕ, ◌+◌, ◌≤◌, List, [], ◌∷◌, ◌++◌, true, false, Some, None, Option, refl, sym, ap, ◌∙◌, Bool, not, ◌&&◌, ◌==◌, ◌⊎◌, inl, inr, if◌then◌else◌, arith}
 use Rattle.std.proofs.lemmas.Bool.{eqb-true, and_parts, cases_eq, ne_eqb, eq-eqb}
+use Rattle.std.proofs.lemmas.Option.{none-some}
 use Rattle.tr_pending.specs.declared.instance.Instance.{Instance}
 use Rattle.tr_tracee.specs.declared.life.End.{End}
 use Rattle.tr_tracee.specs.declared.life.End.TheVariants as ending
@@ -30,15 +31,12 @@ has_id k t = one (t.id == k)
 pub record Distinct (w : Work) : Type 0 where
   pub once : (k : ℕ) → total (has_id k) w.table.threads ≤ 1
 
-none_has : (k : ℕ) (ts : List Thread) → Tables.thread_in ts k ≡ None → total (has_id k) ts ≡ 0
+pub none_has : (k : ℕ) (ts : List Thread) → Tables.thread_in ts k ≡ None → total (has_id k) ts ≡ 0
 none_has k [] e = refl
 none_has k (t ∷ ts) e = go (t.id == k) e (none_has k ts)
   where
-    some : Some t ≡ None → ⊥
-    some q = cc
-
     go : (b : Bool) → (if b then Some t else Tables.thread_in ts k) ≡ None → (Tables.thread_in ts k ≡ None → total (has_id k) ts ≡ 0) → one b + total (has_id k) ts ≡ 0
-    go true q r = absurd (some q)
+    go true q r = absurd (none-some t (sym q))
     go false q r = omega (arith, r q)
 
 same_id : (k : ℕ) (t u : Thread) → u.id ≡ t.id → has_id k u ≡ has_id k t

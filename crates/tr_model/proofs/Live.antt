@@ -1,6 +1,7 @@
 -- What an entry ended isn't pending.
 use Rattle.std.proofs.Common.{◌≡◌, ℕ, List, [], ◌∷◌, ◌++◌, true, false, Some, None, Option, refl, sym, subst, ap, ◌∙◌, Bool, ◌==◌, if◌then◌else◌, map, filter, true≢false}
 use Rattle.std.specs.Prelude.{flat_map}
+use Rattle.std.proofs.lemmas.Option.{same_Some}
 use Rattle.tr_pending.specs.declared.instance.Instance.{Instance}
 use Rattle.tr_tracee.specs.declared.life.End.{End}
 use Rattle.tr_tracee.specs.declared.life.End.TheVariants as end
@@ -68,7 +69,7 @@ at_same id move h w = go (thread_of w.table id)
     go None = refl
     go (Some t) = h t w
 
-entering_same : (s : Stop) (t : Thread) (w : Work) → (Moves.enter_if_allowed s t w).ended ≡ w.ended
+pub entering_same : (s : Stop) (t : Thread) (w : Work) → (Moves.enter_if_allowed s t w).ended ≡ w.ended
 entering_same s t w = branch w.ended (TraceeStops.may_enter t.life) _ w refl refl
 
 held_same : (t : Thread) (o : Option Instance) (w : Work) → (Moves.on_instance o (Moves.holding t) w).ended ≡ w.ended
@@ -115,11 +116,8 @@ never_pending : (n : ℕ) (es : List Ending) → AllLive es → Journals.ended_a
 never_pending n [] l q = cc
 never_pending n (e ∷ es) l q = go (e.number == n) q (never_pending n es l.1)
   where
-    named : (f g : Fate) → Some f ≡ Some g → f ≡ g
-    named f g q = cc
-
     go : (b : Bool) → (if b then Some e.fate else Journals.ended_as es n) ≡ Some Pending → (Journals.ended_as es n ≡ Some Pending → ⊥) → ⊥
-    go true q later = true≢false (sym (ap is_pending (named e.fate Pending q)) ∙ l.0)
+    go true q later = true≢false (sym (ap is_pending (same_Some e.fate Pending q)) ∙ l.0)
     go false q later = later q
 
 pub ended_is_not_pending : Laws.EndedIsNotPending

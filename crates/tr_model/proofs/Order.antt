@@ -1,6 +1,7 @@
 -- Takes of one signal from one queue are in the order of their numbers.
 use Rattle.std.proofs.Common.{◌≡◌, ◌≢◌, ℕ, ◌+◌, ◌<◌, ◌≤◌, List, [], ◌∷◌, ◌++◌, true, false, Some, None, Option, refl, sym, ap, ◌∙◌, map, filter, Bool, not, ◌&&◌, ◌||◌, ◌==◌, ◌⊎◌, inl, inr, if◌then◌else◌, arith, cond, nat_lt, true≢false, append-nil, append_assoc, subst, ⊎_elim}
 use Rattle.std.proofs.lemmas.Bool.{cases_lt, or_right, ltb-false, eqb-false, eqb-true, and_parts, and_from, cases_eq, eq-eqb}
+use Rattle.std.proofs.lemmas.Option.{none-some, same_Some}
 use Rattle.tr_pending.specs.declared.instance.Instance.{Instance}
 use Rattle.tr_tracee.specs.declared.life.End.{End}
 use Rattle.tr_tracee.specs.declared.life.Stop.{Stop}
@@ -37,45 +38,22 @@ use Rattle.tr_model.specs.Takes
 use Rattle.tr_tracee.specs.Threads
 use Rattle.tr_tracee.specs.Ends as TraceeEnds
 use Rattle.tr_tracee.specs.Stops as TraceeStops
-use Rattle.tr_model.proofs.Among.{is_in-last}
+use Rattle.tr_model.proofs.Among.{Among, among_filter, filter_among, is_in-last}
+use Rattle.tr_model.proofs.Compared.{numbered_among}
 
-abbrev In : {A : Type 0} → A → List A → Type 0
-In x [] = ⊥
-In x (y ∷ ys) = (y ≡ x) ⊎ In x ys
+all_among : {A : Type 0} (p : A → Bool) (x : A) (xs : List A) → list_all p xs ≡ true → Among x xs → p x ≡ true
+all_among p x [] a h = absurd h
+all_among p x (y ∷ ys) a (inl s) = ap p s ∙ (and_parts _ _ a).0
+all_among p x (y ∷ ys) a (inr m) = all_among p x ys (and_parts _ _ a).1 m
 
-module _ {A : Type 0} where
-  in_filter : (p : A → Bool) (x : A) (xs : List A) → In x (filter p xs) → In x xs × (p x ≡ true)
-  in_filter p x [] h = absurd h
-  in_filter p x (y ∷ ys) h = go (p y) refl h (in_filter p x ys)
-    where
-      go : (b : Bool) → p y ≡ b → In x (cond b (y ∷ filter p ys) (filter p ys)) → (In x (filter p ys) → In x ys × (p x ≡ true)) → ((y ≡ x) ⊎ In x ys) × (p x ≡ true)
-      go true e (inl s) ih = (inl s, ap p (sym s) ∙ e)
-      go true e (inr m) ih = (inr (ih m).0, (ih m).1)
-      go false e m ih = (inr (ih m).0, (ih m).1)
-
-  filter_in : (p : A → Bool) (x : A) (xs : List A) → In x xs → p x ≡ true → In x (filter p xs)
-  filter_in p x [] h q = absurd h
-  filter_in p x (y ∷ ys) h q = go (p y) refl h (λ m. filter_in p x ys m q)
-    where
-      go : (b : Bool) → p y ≡ b → (y ≡ x) ⊎ In x ys → (In x ys → In x (filter p ys)) → In x (cond b (y ∷ filter p ys) (filter p ys))
-      go true e (inl s) ih = inl s
-      go true e (inr m) ih = inr (ih m)
-      go false e (inl s) ih = absurd (true≢false (sym q ∙ (ap p (sym s) ∙ e)))
-      go false e (inr m) ih = ih m
-
-  all_in : (p : A → Bool) (x : A) (xs : List A) → list_all p xs ≡ true → In x xs → p x ≡ true
-  all_in p x [] a h = absurd h
-  all_in p x (y ∷ ys) a (inl s) = ap p (sym s) ∙ (and_parts _ _ a).0
-  all_in p x (y ∷ ys) a (inr m) = all_in p x ys (and_parts _ _ a).1 m
-
-in_queue : (x : Waiting) (ws : List Waiting) → In x ws → In x.instance (map (λ w. w.instance) ws)
+in_queue : (x : Waiting) (ws : List Waiting) → Among x ws → Among x.instance (map (λ w. w.instance) ws)
 in_queue x [] h = absurd h
 in_queue x (y ∷ ys) (inl e) = inl (ap (λ (w : Waiting). w.instance) e)
 in_queue x (y ∷ ys) (inr m) = inr (in_queue x ys m)
 
-from_queue : (i : Instance) (ws : List Waiting) → In i (map (λ w. w.instance) ws) → (x : Waiting) × In x ws × (x.instance ≡ i)
+from_queue : (i : Instance) (ws : List Waiting) → Among i (map (λ w. w.instance) ws) → (x : Waiting) × Among x ws × (x.instance ≡ i)
 from_queue i [] h = absurd h
-from_queue i (y ∷ ys) (inl e) = (y, inl refl, e)
+from_queue i (y ∷ ys) (inl e) = (y, inl refl, sym e)
 from_queue i (y ∷ ys) (inr m) = let r = from_queue i ys m in (r.0, inr r.1, r.2)
 
 same_yes : (q r : Target) → q ≡ r → Tables.same_target q r ≡ true
@@ -88,24 +66,10 @@ same_is (target.Group a) (target.Group b) e = ap target.Group (sym (eqb-true a b
 same_is (target.Thread a) (target.Group b) e = absurd (true≢false (sym e))
 same_is (target.Group a) (target.Thread b) e = absurd (true≢false (sym e))
 
-numbered_in : (n : ℕ) (i : Instance) (is : List Instance) → Takes.with_number n is ≡ Some i → In i is × (i.n ≡ n)
-numbered_in n i [] e = absurd (no_instance e)
-  where
-    no_instance : None ≡ Some i → ⊥
-    no_instance e = cc
-numbered_in n i (j ∷ js) e = go (j.n == n) refl e (numbered_in n i js)
-  where
-    same : Some j ≡ Some i → j ≡ i
-    same q = cc
-
-    go : (b : Bool) → (j.n == n) ≡ b → (if b then Some j else Takes.with_number n js) ≡ Some i → (Takes.with_number n js ≡ Some i → In i js × (i.n ≡ n)) → ((j ≡ i) ⊎ In i js) × (i.n ≡ n)
-    go true h q ih = (inl (same q), ap (λ (k : Instance). k.n) (sym (same q)) ∙ eqb-true j.n n h)
-    go false h q ih = (inr (ih q).0, (ih q).1)
-
 -- what a choice from a queue says of that queue
 pub record Chosen (T : Table) (q : Target) (i : Instance) : Type 0 where
-  pub there : (x : Waiting) × In x T.waiting × (x.instance ≡ i) × (x.target ≡ q)
-  pub least : (x : Waiting) → In x T.waiting → x.target ≡ q → x.instance.sig ≡ i.sig → i.n ≤ x.instance.n
+  pub there : (x : Waiting) × Among x T.waiting × (x.instance ≡ i) × (x.target ≡ q)
+  pub least : (x : Waiting) → Among x T.waiting → x.target ≡ q → x.instance.sig ≡ i.sig → i.n ≤ x.instance.n
 
 not_before : (i j : Instance) → j.sig ≡ i.sig → not (Takes.goes_before j i) ≡ true → i.n ≤ j.n
 not_before i j e h = go (nat_lt j.n i.n) refl
@@ -126,27 +90,24 @@ chosen T t q n i e = go (Threads.is_ready_to_take t) refl e
 
     main : Takes.with_number n (Takes.choices_in (Takes.unblocked t.mask (Tables.queue T q))) ≡ Some i → Chosen T q i × (i.n ≡ n)
     main e =
-        let f = numbered_in n i _ e in
-        let c = in_filter (λ i. list_all (λ j. not (Takes.goes_before j i)) (Takes.unblocked t.mask (Tables.queue T q))) i (Takes.unblocked t.mask (Tables.queue T q)) f.0 in
-        let u = in_filter (λ i. not (Sets.has t.mask i.sig)) i (Tables.queue T q) c.0 in
+        let f = numbered_among n i _ e in
+        let c = filter_among (λ i. list_all (λ j. not (Takes.goes_before j i)) (Takes.unblocked t.mask (Tables.queue T q))) i (Takes.unblocked t.mask (Tables.queue T q)) f.0 in
+        let u = filter_among (λ i. not (Sets.has t.mask i.sig)) i (Tables.queue T q) c.0 in
         let w = from_queue i _ u.0 in
-        let v = in_filter (λ w. Tables.same_target q w.target) w.0 T.waiting w.1 in (
+        let v = filter_among (λ w. Tables.same_target q w.target) w.0 T.waiting w.1 in (
           record {
             there = (w.0, v.0, w.2, same_is q w.0.target v.1);
             least = λ x m tx sx.
-                let in_q = in_queue x _ (filter_in (λ w. Tables.same_target q w.target) x T.waiting m (same_yes q x.target (sym tx))) in
+                let in_q = in_queue x _ (among_filter (λ w. Tables.same_target q w.target) x T.waiting m (same_yes q x.target (sym tx))) in
                 let open_x : not (Sets.has t.mask x.instance.sig) ≡ true = ap (λ k. not (Sets.has t.mask k)) sx ∙ u.1 in
-                not_before i x.instance sx (all_in (λ j. not (Takes.goes_before j i)) x.instance (Takes.unblocked t.mask (Tables.queue T q)) c.1 (filter_in (λ i. not (Sets.has t.mask i.sig)) x.instance (Tables.queue T q) in_q open_x));
+                not_before i x.instance sx (all_among (λ j. not (Takes.goes_before j i)) x.instance (Takes.unblocked t.mask (Tables.queue T q)) c.1 (among_filter (λ i. not (Sets.has t.mask i.sig)) x.instance (Tables.queue T q) in_q open_x));
           },
           f.1,
         )
 
     go : (b : Bool) → Threads.is_ready_to_take t ≡ b → Takes.with_number n (if b then Takes.choices_in (Takes.unblocked t.mask (Tables.queue T q)) else []) ≡ Some i → Chosen T q i × (i.n ≡ n) × (Threads.is_ready_to_take t ≡ true)
     go true r e = let m = main e in (m.0, m.1, r)
-    go false r e = absurd (none e)
-      where
-        none : None ≡ Some i → ⊥
-        none e = cc
+    go false r e = absurd (none-some i e)
 
 -- Every instance of the signal that waits in the queue was accepted later
 
@@ -157,9 +118,9 @@ abbrev AllAfter : Target → ℕ → ℕ → List Waiting → Type 0
 AllAfter q s n [] = Unit {0}
 AllAfter q s n (x ∷ xs) = After q s n x × AllAfter q s n xs
 
-all_after_in : (q : Target) (s n : ℕ) (x : Waiting) (ws : List Waiting) → AllAfter q s n ws → In x ws → After q s n x
+all_after_in : (q : Target) (s n : ℕ) (x : Waiting) (ws : List Waiting) → AllAfter q s n ws → Among x ws → After q s n x
 all_after_in q s n x [] h m = absurd m
-all_after_in q s n x (y ∷ ws) h (inl e) = subst (After q s n) e h.0
+all_after_in q s n x (y ∷ ws) h (inl e) = subst (After q s n) (sym e) h.0
 all_after_in q s n x (y ∷ ws) h (inr m) = all_after_in q s n x ws h.1 m
 
 all_after-append : (q : Target) (s n : ℕ) (xs ys : List Waiting) → AllAfter q s n xs → AllAfter q s n ys → AllAfter q s n (xs ++ ys)
@@ -307,7 +268,7 @@ module _ (q : Target) (s n : ℕ) (before : List ℕ) where
 -- What a take leaves
 
 abbrev Least : Target → ℕ → ℕ → List Waiting → Type 0
-Least q s n ws = (x : Waiting) → In x ws → x.target ≡ q → x.instance.sig ≡ s → n ≤ x.instance.n
+Least q s n ws = (x : Waiting) → Among x ws → x.target ≡ q → x.instance.sig ≡ s → n ≤ x.instance.n
 
 delivered_after : (q : Target) (s n : ℕ) (ws : List Waiting) → Least q s n ws → AllAfter q s n (filter (λ x. not (x.instance.n == n)) ws)
 delivered_after q s n [] l = tt
@@ -333,13 +294,13 @@ held_after q s n (x ∷ ws) l z = go (x.instance.n == n) refl z (held_after q s 
     go true h z r = none_after q s n ws (λ y m. l y (inr m)) (omega arith)
     go false h z r = ((λ e k. let m = l x (inl refl) e k in let d : x.instance.n ≢ n = eqb-false x.instance.n n h in omega arith), r (omega arith))
 
-instance_there : (n : ℕ) (x : Waiting) (ws : List Waiting) → In x ws → x.instance.n ≡ n → (i : Instance) × (Moves.instance_in ws n ≡ Some i) × (i.n ≡ n)
+instance_there : (n : ℕ) (x : Waiting) (ws : List Waiting) → Among x ws → x.instance.n ≡ n → (i : Instance) × (Moves.instance_in ws n ≡ Some i) × (i.n ≡ n)
 instance_there n x [] m e = absurd m
 instance_there n x (y ∷ ws) m e = go (y.instance.n == n) refl m (λ r. instance_there n x ws r e)
   where
-    go : (b : Bool) → (y.instance.n == n) ≡ b → (y ≡ x) ⊎ In x ws → (In x ws → (i : Instance) × (Moves.instance_in ws n ≡ Some i) × (i.n ≡ n)) → (i : Instance) × ((if b then Some y.instance else Moves.instance_in ws n) ≡ Some i) × (i.n ≡ n)
+    go : (b : Bool) → (y.instance.n == n) ≡ b → Among x (y ∷ ws) → (Among x ws → (i : Instance) × (Moves.instance_in ws n ≡ Some i) × (i.n ≡ n)) → (i : Instance) × ((if b then Some y.instance else Moves.instance_in ws n) ≡ Some i) × (i.n ≡ n)
     go true h m r = (y.instance, refl, eqb-true y.instance.n n h)
-    go false h (inl s) r = absurd (eqb-false y.instance.n n h (ap (λ (w : Waiting). w.instance.n) s ∙ e))
+    go false h (inl s) r = absurd (eqb-false y.instance.n n h (ap (λ (w : Waiting). w.instance.n) (sym s) ∙ e))
     go false h (inr k) r = r k
 
 at_found_is : (T : Table) (id : ℕ) (t : Thread) (move : Thread → Work → Work) (w : Work) → Tables.thread_of w.table id ≡ Some t → Moves.at id move w ≡ move t w
@@ -367,11 +328,8 @@ take_later T t i q e ready c d a = go (Threads.is_traced t)
 
 -- Entries and journals
 
-numbered-append : (n : ℕ) (i : Instance) (xs ys : List Instance) → Takes.with_number n xs ≡ Some i → Takes.with_number n (xs ++ ys) ≡ Some i
-numbered-append n i [] ys e = absurd (none e)
-  where
-    none : None ≡ Some i → ⊥
-    none e = cc
+pub numbered-append : (n : ℕ) (i : Instance) (xs ys : List Instance) → Takes.with_number n xs ≡ Some i → Takes.with_number n (xs ++ ys) ≡ Some i
+numbered-append n i [] ys e = absurd (none-some i e)
 numbered-append n i (x ∷ xs) ys e = go (x.n == n) e (numbered-append n i xs ys)
   where
     go : (b : Bool) → (if b then Some x else Takes.with_number n xs) ≡ Some i → (Takes.with_number n xs ≡ Some i → Takes.with_number n (xs ++ ys) ≡ Some i) → (if b then Some x else Takes.with_number n (xs ++ ys)) ≡ Some i
@@ -382,18 +340,9 @@ numbered_past : (n : ℕ) (xs ys : List Instance) → Takes.with_number n xs ≡
 numbered_past n [] ys e = refl
 numbered_past n (x ∷ xs) ys e = go (x.n == n) e (numbered_past n xs ys)
   where
-    some : Some x ≡ None → ⊥
-    some e = cc
-
     go : (b : Bool) → (if b then Some x else Takes.with_number n xs) ≡ None → (Takes.with_number n xs ≡ None → Takes.with_number n (xs ++ ys) ≡ Takes.with_number n ys) → (if b then Some x else Takes.with_number n (xs ++ ys)) ≡ Takes.with_number n ys
-    go true q r = absurd (some q)
+    go true q r = absurd (none-some x (sym q))
     go false q r = r q
-
-taken_same : (k l : Taken) → Some k ≡ Some l → k ≡ l
-taken_same k l e = cc
-
-no_taken : (k : Taken) → None ≡ Some k → ⊥
-no_taken k e = cc
 
 -- what a take took, and how
 record Took (T : Table) (t : Thread) (n : ℕ) (k : Taken) : Type 0 where
@@ -410,23 +359,23 @@ took T t n k e = own (Takes.with_number n (Takes.choices_from T t (target.Thread
     make : (q : Target) (i : Instance) → Takes.with_number n (Takes.choices_from T t q) ≡ Some i → Takes.with_number n (Takes.choices T t) ≡ Some i → Some (record { number = i.n; signal = i.sig; queue = q }) ≡ Some k → Took T t n k
     make q i h f e =
         let c = chosen T t q n i h in
-        let s = taken_same (record { number = i.n; signal = i.sig; queue = q }) k e in
+        let s = same_Some (record { number = i.n; signal = i.sig; queue = q }) k e in
         record { instance = i; found = f; chose = subst (λ r. Chosen T r i) (ap (λ (x : Taken). x.queue) s) c.0; ready = c.2; number = ap (λ (x : Taken). x.number) (sym s); signal = ap (λ (x : Taken). x.signal) (sym s) }
 
     shared : Takes.with_number n (Takes.choices_from T t (target.Thread t.id)) ≡ None → (o : Option Instance) → Takes.with_number n (Takes.choices_from T t (target.Group t.group)) ≡ o → Journals.taken_if (target.Group t.group) o None ≡ Some k → Took T t n k
-    shared z None h e = absurd (no_taken k e)
+    shared z None h e = absurd (none-some k e)
     shared z (Some i) h e = make (target.Group t.group) i h (numbered_past n (Takes.choices_from T t (target.Thread t.id)) (Takes.choices_from T t (target.Group t.group)) z ∙ h) e
 
     own : (o : Option Instance) → Takes.with_number n (Takes.choices_from T t (target.Thread t.id)) ≡ o → Journals.taken_if (target.Thread t.id) o (Journals.taken_if (target.Group t.group) (Takes.with_number n (Takes.choices_from T t (target.Group t.group))) None) ≡ Some k → Took T t n k
     own None h e = shared h (Takes.with_number n (Takes.choices_from T t (target.Group t.group))) refl e
     own (Some i) h e = make (target.Thread t.id) i h (numbered-append n i (Takes.choices_from T t (target.Thread t.id)) (Takes.choices_from T t (target.Group t.group)) h) e
 
-waits_there : (x : Waiting) (ws : List Waiting) → In x ws → 1 ≤ waits x.instance.n ws
+waits_there : (x : Waiting) (ws : List Waiting) → Among x ws → 1 ≤ waits x.instance.n ws
 waits_there x [] m = absurd m
-waits_there x (y ∷ ws) (inl e) = let h : one (y.instance.n == x.instance.n) ≡ 1 = ap one (eq-eqb y.instance.n x.instance.n (ap (λ (w : Waiting). w.instance.n) e)) in omega arith
+waits_there x (y ∷ ws) (inl e) = let h : one (y.instance.n == x.instance.n) ≡ 1 = ap one (eq-eqb y.instance.n x.instance.n (ap (λ (w : Waiting). w.instance.n) (sym e))) in omega arith
 waits_there x (y ∷ ws) (inr m) = omega (arith, waits_there x ws m)
 
-once : (T : Table) (ended : List Ending) → Sound T ended → (x : Waiting) → In x T.waiting → (waits x.instance.n T.waiting ≤ 1) × (x.instance.n ≤ T.accepted)
+once : (T : Table) (ended : List Ending) → Sound T ended → (x : Waiting) → Among x T.waiting → (waits x.instance.n T.waiting ≤ 1) × (x.instance.n ≤ T.accepted)
 once T ended s x m = (omega (arith, s.at x.instance.n, born_small x.instance.n T.accepted), past (cases_lt T.accepted x.instance.n))
   where
     past : (T.accepted < x.instance.n) ⊎ (x.instance.n ≤ T.accepted) → x.instance.n ≤ T.accepted
@@ -437,7 +386,7 @@ by_thread : (T : Table) (ended : List Ending) → Sound T ended → (a id n : �
 by_thread T ended s a id n k e = go (Tables.thread_of T id) refl e
   where
     go : (o : Option Thread) → Tables.thread_of T id ≡ o → Journals.taken_by T o n ≡ Some k → Later k.queue k.signal k.number [] (Moves.on_thread o (Takes.take_numbered n) (Moves.begin T))
-    go None h e = absurd (no_taken k e)
+    go None h e = absurd (none-some k e)
     go (Some t) h e =
         let w = took T t n k e in
         let number_is : w.chose.there.0.instance.n ≡ w.instance.n = ap (λ (i : Instance). i.n) w.chose.there.2 in
@@ -449,7 +398,7 @@ by_thread T ended s a id n k e = go (Tables.thread_of T id) refl e
 event_later : (T : Table) (ended : List Ending) → Sound T ended → (a : ℕ) (e : Event) (c : Choice) (k : Taken) → Journals.taken_of T e c ≡ Some k → Later k.queue k.signal k.number [] (GroupStops.complete_group_stops (Steps.work_of_event a e c (Moves.begin T)))
 event_later T ended s a (event.Take id) c k e = settle-kept any any_of (Later k.queue k.signal k.number []) (moves-later k.queue k.signal k.number []) _ (by_thread T ended s a id (Steps.number c.instance) k e)
 event_later T ended s a (event.TakeAny g) c k e = settle-kept any any_of (Later k.queue k.signal k.number []) (moves-later k.queue k.signal k.number []) _ (by_thread T ended s a (Steps.number c.thread) (Steps.number c.instance) k e)
-event_later T ended s a e c k q = absurd (no_taken k q)
+event_later T ended s a e c k q = absurd (none-some k q)
 
 record LaterIn (q : Target) (s n : ℕ) (ids : List ℕ) (T : Table) : Type 0 where
   born : n ≤ T.accepted
@@ -469,14 +418,14 @@ event_took : (T : Table) (e : Event) (c : Choice) (k : Taken) → Journals.taken
 event_took T (event.Take id) c k e = go (Tables.thread_of T id) e
   where
     go : (o : Option Thread) → Journals.taken_by T o (Steps.number c.instance) ≡ Some k → (i : Instance) × Chosen T k.queue i × (k.number ≡ i.n) × (k.signal ≡ i.sig)
-    go None e = absurd (no_taken k e)
+    go None e = absurd (none-some k e)
     go (Some t) e = let w = took T t (Steps.number c.instance) k e in (w.instance, w.chose, w.number, w.signal)
 event_took T (event.TakeAny g) c k e = go (Tables.thread_of T (Steps.number c.thread)) e
   where
     go : (o : Option Thread) → Journals.taken_by T o (Steps.number c.instance) ≡ Some k → (i : Instance) × Chosen T k.queue i × (k.number ≡ i.n) × (k.signal ≡ i.sig)
-    go None e = absurd (no_taken k e)
+    go None e = absurd (none-some k e)
     go (Some t) e = let w = took T t (Steps.number c.instance) k e in (w.instance, w.chose, w.number, w.signal)
-event_took T e c k q = absurd (no_taken k q)
+event_took T e c k q = absurd (none-some k q)
 
 pub in_order : Laws.TakesAreInOrder
 in_order S T M U V first between qs rs e f x y start r se r2 sf a b ta tb same_s same_q free =

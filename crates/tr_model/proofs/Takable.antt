@@ -4,6 +4,7 @@ use Rattle.std.specs.Prelude.{filter, is_some, map}
 use Rattle.std.specs.List.{list_all}
 use Rattle.std.proofs.lemmas.Bool.{and_from, cases_lt, eq-eqb, eqb-false, eqb-true, leb-false, leb-true, true≢false}
 use Rattle.std.proofs.lemmas.Bool.Decides.{nat_tests}
+use Rattle.std.proofs.lemmas.Option.{none-some}
 use Rattle.std.specs.Option.{option_or}
 use Rattle.tr_sigset.specs.Sets.{has}
 use Rattle.tr_sigset.specs.declared.sets.SigSet.{SigSet}
@@ -19,7 +20,7 @@ use Rattle.tr_model.specs.Moves.{instance_in}
 use Rattle.tr_model.specs.Preferred.{best_for}
 use Rattle.tr_model.specs.Tables.{Table, queue, same_target}
 use Rattle.tr_model.specs.Takes.{can_take, choices, choices_in, goes_before, is_empty, taken_from, unblocked, with_number}
-use Rattle.tr_model.proofs.Among.{Among, among_filter, among_left, among_right, filter_among}
+use Rattle.tr_model.proofs.Among.{Among, among_empty, among_filter, among_left, among_right, filter_among}
 use Rattle.tr_model.proofs.Sorted.{InOrder, Past, in_order_filter, sorted_filter, sorted_instances}
 
 -- The first instance of the least number
@@ -165,10 +166,6 @@ some_least x (y ∷ ys) = go (some_least y ys)
         by_sig (inl h) = record { first = x; among = inl refl; none = (itself, before_all x l.first (y ∷ ys) (λ j a b. (omega (arith, h, a), λ q. omega (arith, h, a, q))) l.none) }
         by_sig (inr h) = by_rest h (cases_lt l.first.sig x.sig)
 
-among_some : (i : Instance) (is : List Instance) → Among i is → is_empty is ≡ false
-among_some i [] m = absurd m
-among_some i (x ∷ is) m = refl
-
 left_where_best : (mask : SigSet) (is : List Instance) → is_empty (choices_in (unblocked mask is)) ≡ not (is_some (best_of mask is))
 left_where_best mask is = go (unblocked mask is) (best_is_least mask is)
   where
@@ -176,7 +173,7 @@ left_where_best mask is = go (unblocked mask is) (best_is_least mask is)
     go [] e = rw e refl
     go (x ∷ xs) e =
         let l = some_least x xs in
-        rw e (among_some l.first (choices_in (x ∷ xs)) (among_filter (λ j. list_all (λ k. not (goes_before k j)) (x ∷ xs)) l.first (x ∷ xs) l.among (all_stay l.first (x ∷ xs) l.none)))
+        rw e (among_empty l.first (choices_in (x ∷ xs)) (among_filter (λ j. list_all (λ k. not (goes_before k j)) (x ∷ xs)) l.first (x ∷ xs) l.among (all_stay l.first (x ∷ xs) l.none)))
 
 none_left_append : (xs ys : List Instance) → is_empty (xs ++ ys) ≡ (is_empty xs && is_empty ys)
 none_left_append [] ys = refl
@@ -296,10 +293,7 @@ best_is_chosen T t i s e = go (is_ready_to_take t) refl
         record { ready = r; chosen = rw r c; waits = instance_numbered i.n T.waiting ∙ only_one (all_instances T.waiting) (λ j k. k) w; taken = q }
 
     go : (b : Bool) → is_ready_to_take t ≡ b → Best T t i
-    go false r = absurd (none (sym (rw r at e)))
-      where
-        none : Some i ≡ None → ⊥
-        none q = cc
+    go false r = absurd (none-some i (rw r at e))
     go true r = by (best_of t.mask own) refl (rw r at e)
       where
         by : (o : Option Instance) → best_of t.mask own ≡ o → option_or o (best_of t.mask shared) ≡ Some i → Best T t i

@@ -1,6 +1,7 @@
 -- The fates of the accepted numbers.
 use Rattle.std.proofs.Common.{◌≡◌, ℕ, zero, suc, ◌+◌, ◌≤◌, List, [], ◌∷◌, ◌++◌, true, false, Some, None, Option, refl, sym, ap, ◌∙◌, Bool, ◌&&◌, ◌==◌, ◌⊎◌, inl, inr, if◌then◌else◌, arith, nat_le, true≢false, ap₂, slice_get}
 use Rattle.std.proofs.lemmas.Bool.{le-leb, eqb-true, and_from, eq-eqb}
+use Rattle.std.proofs.lemmas.Option.{none-some, same_Some}
 use Rattle.tr_model.specs.declared.events.Entry.{Entry}
 use Rattle.tr_model.specs.declared.fates.Fate.{Fate}
 use Rattle.tr_model.specs.declared.fates.Fate.TheVariants.{Pending, Merged, Delivered, Suppressed, Flushed}
@@ -13,6 +14,7 @@ use Rattle.tr_model.specs.Tables.{Table}
 use Rattle.tr_model.specs.Journals
 use Rattle.tr_model.specs.Laws
 use Rattle.tr_model.proofs.Among.{occurs-append}
+use Rattle.tr_model.proofs.Standing.{occurs-in}
 
 abbrev ending : ℕ → Fate → Ending
 ending n f = record { number = n; fate = f }
@@ -49,15 +51,6 @@ fates_sum T U es = sum_to T U es U.accepted (omega arith)
 
 -- one fate
 
-is_in_occurs : (n : ℕ) (xs : List ℕ) → IsIn n xs → 1 ≤ Journals.occurs n xs
-is_in_occurs n [] h = absurd h
-is_in_occurs n (x ∷ xs) (inl e) = go (x == n) (eq-eqb x n e)
-  where
-    go : (b : Bool) → b ≡ true → 1 ≤ (if b then 1 else 0) + Journals.occurs n xs
-    go true q = omega arith
-    go false q = absurd (true≢false (sym q))
-is_in_occurs n (x ∷ xs) (inr h) = omega (arith, is_in_occurs n xs h)
-
 occurs_is_in : (n : ℕ) (xs : List ℕ) → 1 ≤ Journals.occurs n xs → IsIn n xs
 occurs_is_in n [] h = absurd (omega arith)
 occurs_is_in n (x ∷ xs) h = go (x == n) refl h (occurs_is_in n xs)
@@ -68,32 +61,20 @@ occurs_is_in n (x ∷ xs) h = go (x == n) refl h (occurs_is_in n xs)
 
 -- the first ending of a number is one of its endings
 ended_first : (es : List Ending) (n : ℕ) (f : Fate) → Journals.ended_as es n ≡ Some f → (k : ℕ) × (slice_get es k ≡ Some (ending n f))
-ended_first [] n f e = absurd (none e)
-  where
-    none : None ≡ Some f → ⊥
-    none e = cc
+ended_first [] n f e = absurd (none-some f e)
 ended_first (x ∷ es) n f e = go (x.number == n) refl e (ended_first es n f)
   where
-    same : Some x.fate ≡ Some f → x.fate ≡ f
-    same q = cc
-
     go : (b : Bool) → (x.number == n) ≡ b → (if b then Some x.fate else Journals.ended_as es n) ≡ Some f → (Journals.ended_as es n ≡ Some f → (k : ℕ) × (slice_get es k ≡ Some (ending n f))) → (k : ℕ) × (slice_get (x ∷ es) k ≡ Some (ending n f))
-    go true q s r = (zero, (λ i. Some (record { number = eqb-true x.number n q i; fate = same s i })))
+    go true q s r = (zero, (λ i. Some (record { number = eqb-true x.number n q i; fate = same_Some x.fate f s i })))
     go false q s r = let z = r s in (suc z.0, z.1)
 
 -- where a number is ended once, each of its endings is the first
 ended_only : (es : List Ending) (n k : ℕ) (f : Fate) → gone n es ≤ 1 → slice_get es k ≡ Some (ending n f) → (Journals.ended_as es n ≡ Some f) × (1 ≤ gone n es)
-ended_only [] n k f l e = absurd (none e)
-  where
-    none : None ≡ Some (ending n f) → ⊥
-    none e = cc
+ended_only [] n k f l e = absurd (none-some (ending n f) e)
 ended_only (x ∷ es) n zero f l e = (found (x.number == n) (eq-eqb x.number n (ap (λ (y : Ending). y.number) same)), counted (x.number == n) (eq-eqb x.number n (ap (λ (y : Ending). y.number) same)))
   where
     same : x ≡ ending n f
-    same = unsome e
-      where
-        unsome : Some x ≡ Some (ending n f) → x ≡ ending n f
-        unsome q = cc
+    same = same_Some x (ending n f) e
 
     found : (b : Bool) → b ≡ true → (if b then Some x.fate else Journals.ended_as es n) ≡ Some f
     found true q = ap (λ (y : Ending). Some y.fate) same
@@ -112,11 +93,8 @@ never_ended : (es : List Ending) (n : ℕ) → Journals.ended_as es n ≡ None �
 never_ended [] n e = refl
 never_ended (x ∷ es) n e = go (x.number == n) e (never_ended es n)
   where
-    some : Some x.fate ≡ None → ⊥
-    some q = cc
-
     go : (b : Bool) → (if b then Some x.fate else Journals.ended_as es n) ≡ None → (Journals.ended_as es n ≡ None → gone n es ≡ 0) → one b + gone n es ≡ 0
-    go true q r = absurd (some q)
+    go true q r = absurd (none-some x.fate (sym q))
     go false q r = omega (arith, r q)
 
 pub fates_agree : Laws.FatesAgree
@@ -141,4 +119,4 @@ fates_agree T U es rs start r n l m = (has (Journals.ended_as (Journals.ended_by
 
     only : (f : Fate) → Journals.HasFate (Journals.ended_by T es) U n f → f ≡ Journals.or_pending (Journals.ended_as (Journals.ended_by T es) n)
     only f (Journals.HasFate.ended_so k e) = ap Journals.or_pending (sym (ended_only (Journals.ended_by T es) n k f (omega (arith, count)) e).0)
-    only f (Journals.HasFate.still h) = by_first (Journals.ended_as (Journals.ended_by T es) n) refl (is_in_occurs n (Journals.waiting_numbers U.waiting ++ Journals.held_numbers U.threads) h)
+    only f (Journals.HasFate.still h) = by_first (Journals.ended_as (Journals.ended_by T es) n) refl (occurs-in n (Journals.waiting_numbers U.waiting ++ Journals.held_numbers U.threads) h)

@@ -1,6 +1,5 @@
 ghost use Rattle.std.specs.Prelude.{◌≡◌, ◌↔◌, IsTrue};
 
-use crate::choices::Choice;
 use crate::events::Event;
 use crate::replies::Reply;
 use tr_pending::{Info, Instance};
@@ -100,15 +99,6 @@ impl Same for Which {
 impl Same for WaitFlags {
     fn same(&self, other: &WaitFlags) -> bool {
         self.untraced == other.untraced && self.continued == other.continued
-    }
-}
-
-impl Same for Choice {
-    fn same(&self, other: &Choice) -> bool {
-        self.thread() == other.thread()
-            && self.instance() == other.instance()
-            && self.report() == other.report()
-            && self.new_id() == other.new_id()
     }
 }
 

@@ -1,6 +1,6 @@
 -- The best instance is the first of the least signal that waits and isn't blocked.
 use Rattle.std.proofs.Common.{◌≡◌, ◌≢◌, ℕ, suc, ◌+◌, ◌<◌, ◌≤◌, Bool, true, false, if◌then◌else◌, not, ◌&&◌, ◌||◌, ◌==◌, nat_le, List, [], ◌∷◌, Option, Some, None, refl, sym, ap, ◌∙◌, arith, slice_get, inl, inr, subst}
-use Rattle.std.proofs.lemmas.Bool.{cases_lt}
+use Rattle.std.proofs.lemmas.Bool.{cases_lt, eq-eqb, or_left, or_right}
 use Rattle.std.proofs.lemmas.Bool.Decides.{nat_tests, eqb_tells}
 use Rattle.std.proofs.lemmas.Option.{same_Some}
 use Rattle.tr_sigset.specs.Sets.{has}
@@ -9,13 +9,6 @@ use Rattle.tr_pending.specs.Waiting.{best_of, first_of, is_waiting, IsMask, plac
 use Rattle.tr_pending.specs.declared.instance.Instance.{Instance}
 
 -- tests and options
-
-itself : (n : ℕ) → (n == n) ≡ true
-itself n = grind (arith, nat_tests)
-
-or_true : (b : Bool) → (b || true) ≡ true
-or_true true = refl
-or_true false = refl
 
 not_both : (b : Bool) → b ≡ true → b ≡ false → ⊥
 not_both b t f = cc
@@ -33,10 +26,10 @@ second false b h e = absurd (not_both false e refl)
 -- a queue with one more in front
 
 waits_here : (x : Instance) (q : List Instance) → is_waiting x.sig (x ∷ q) ≡ true
-waits_here x q = ap (λ b. b || is_waiting x.sig q) (itself x.sig)
+waits_here x q = or_left (x.sig == x.sig) (is_waiting x.sig q) (eq-eqb x.sig x.sig refl)
 
 waits_later : (x : Instance) (q : List Instance) (n : ℕ) → is_waiting n q ≡ true → is_waiting n (x ∷ q) ≡ true
-waits_later x q n waits = ap (λ b. (x.sig == n) || b) waits ∙ or_true (x.sig == n)
+waits_later x q n waits = or_right (x.sig == n) (is_waiting n q) waits
 
 first_wins : (x : Instance) (m : Option Instance) → ((k : Instance) → m ≡ Some k → x.sig ≤ k.sig) → preferred_of x m ≡ x
 first_wins x None least = refl

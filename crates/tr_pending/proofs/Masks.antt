@@ -4,20 +4,14 @@ use Rattle.std.specs.List.{list_any, position, remove}
 use Rattle.std.proofs.lemmas.List.Quantifiers.{position-Some}
 use Rattle.std.proofs.lemmas.List.Sums.{position_or_len_is}
 use Rattle.std.proofs.lemmas.Bool.Decides.{nat_tests}
-use Rattle.std.proofs.lemmas.Bool.{cases_lt, cases_eq}
+use Rattle.std.proofs.lemmas.Bool.{cases_lt, cases_eq, eqb-true, lt-ltb, or_right}
+use Rattle.std.proofs.lemmas.Option.{none-some}
 use Rattle.tr_sigset.specs.Sets.{has}
 use Rattle.tr_sigset.specs.declared.sets.SigSet.{SigSet}
 use Rattle.tr_pending.specs.Waiting.{is_waiting, IsMask, first_of, place_of, kept_by}
 use Rattle.tr_pending.specs.declared.instance.Instance.{Instance}
 
 -- tests
-
-or_true : (b : Bool) → (b || true) ≡ true
-or_true true = refl
-or_true false = refl
-
-equal_by_test : (a n : ℕ) → (a == n) ≡ true → a ≡ n
-equal_by_test a n e = grind (arith, nat_tests)
 
 -- a number that equals s is no other number
 no_other : (a s n : ℕ) → (a == s) ≡ true → n ≢ s → (a == n) ≡ false
@@ -41,7 +35,7 @@ any-remove p (x ∷ q) (suc k) d within e = ap (λ b. p x || b) (any-remove p q 
 any_by_index : (p : Instance → Bool) (q : List Instance) (k : ℕ) (d : Instance) → k < length q → p (get_or q k d) ≡ true → list_any p q ≡ true
 any_by_index p [] k d within e = absurd (omega arith)
 any_by_index p (x ∷ q) zero d within e = ap (λ b. b || list_any p q) e
-any_by_index p (x ∷ q) (suc k) d within e = ap (λ b. p x || b) (any_by_index p q k d (omega arith) e) ∙ or_true (p x)
+any_by_index p (x ∷ q) (suc k) d within e = or_right (p x) (list_any p q) (any_by_index p q k d (omega arith) e)
 
 slice_get_is : (q : List Instance) (k : ℕ) (x : Instance) → k < length q → x ≡ get_or q k x → Some x ≡ slice_get q k
 slice_get_is [] k x within e = absurd (omega arith)
@@ -86,14 +80,8 @@ module _ (s : ℕ) (q : List Instance) (k : ℕ) (d : Instance) (found : positio
 
 -- no instance of signal s
 
-within_test : (k n : ℕ) → k < n → nat_lt k n ≡ true
-within_test k n within = grind (arith, nat_tests)
-
-some_none : (k : ℕ) → Some k ≡ None → ⊥
-some_none k e = cc
-
 past_end : (k n : ℕ) → (if nat_lt k n then Some k else None) ≡ None → n ≤ k
-past_end k n e = elim (cases_lt k n) [ inl l ↦ absurd (some_none k (ap (λ b. if b then Some k else None) (sym (within_test k n l)) ∙ e)) | inr g ↦ g ]
+past_end k n e = elim (cases_lt k n) [ inl l ↦ absurd (none-some k (sym e ∙ ap (λ b. if b then Some k else None) (lt-ltb k n l))) | inr g ↦ g ]
 
 pub first_none : (s : ℕ) (q : List Instance) → position (λ i. i.sig == s) q ≡ None → None ≡ first_of s q
 first_none s q e = slice_get_past q (place_of s q) (past_end (place_of s q) (length q) e)
@@ -118,7 +106,7 @@ is_waiting-if false n x q = refl
 is_waiting-kept : (set : SigSet) (n : ℕ) (q : List Instance) → (is_waiting n q && not (has set n)) ≡ is_waiting n (kept_by set q)
 is_waiting-kept set n [] = refl
 is_waiting-kept set n (x ∷ q) =
-    kept_step (x.sig == n) (has set x.sig) (has set n) (is_waiting n q) _ (λ e. ap (has set) (equal_by_test x.sig n e)) (is_waiting-kept set n q)
+    kept_step (x.sig == n) (has set x.sig) (has set n) (is_waiting n q) _ (λ e. ap (has set) (eqb-true x.sig n e)) (is_waiting-kept set n q)
     ∙ sym (is_waiting-if (not (has set x.sig)) n x (kept_by set q))
 
 pub kept_mask : (set mask after : SigSet) (q : List Instance) → IsMask mask q → ((n : ℕ) → has after n ≡ (has mask n && not (has set n))) → IsMask after (kept_by set q)

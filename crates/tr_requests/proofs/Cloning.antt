@@ -52,10 +52,6 @@ is_clone T a tid id p = go (thread_of T tid) refl p.no_cause
     go None h q = cc
     go (Some t) h q = by t h (is_free t.life && not t.pausing) (has_mark t || can_take T t) (at_limit T t) refl refl q
 
--- a look-up has one answer
-pub same_thread : (a b : Thread) → Some a ≡ Some b → a ≡ b
-same_thread a b e = cc
-
 -- a new id is no thread's
 pub no_thread : (T : Table) (id : ℕ) → is_new T id ≡ true → thread_of T id ≡ None
 no_thread T id e =

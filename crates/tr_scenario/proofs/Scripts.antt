@@ -1,21 +1,16 @@
 -- Steps and the scripts of their actors.
-use Rattle.std.proofs.Common.{◌≡◌, ◌∙◌, ◌==◌, ◌≤◌, ◌<◌, ◌+◌, ℕ, zero, suc, Bool, List, [], ◌∷◌, ◌++◌, true, false, ap, sym, refl, length, arith, Some, None, Result, Ok, Err, inr, get_or, slice_set, drop, map, nat_le, ◌&&◌}
+use Rattle.std.proofs.Common.{◌≡◌, ◌∙◌, ◌==◌, ◌≤◌, ◌<◌, ◌+◌, ℕ, zero, suc, Bool, List, [], ◌∷◌, ◌++◌, true, false, ap, sym, refl, length, arith, Some, None, get_or, slice_set, drop, map, nat_le, ◌&&◌}
 use Rattle.std.proofs.lemmas.Grind.{common_steps}
 use Rattle.std.proofs.lemmas.List.{at_drop_more, length-map}
 use Rattle.std.proofs.lemmas.List.Quantifiers.{position-Some}
 use Rattle.std.proofs.lemmas.List.Sums.{fails_before_first}
 use Rattle.std.specs.List.{list_any, position, position_or_len}
 use Rattle.tr_table.specs.Starts.{no_repeat}
-use Rattle.tr_table.specs.declared.starts.Start.{Start}
-use Rattle.tr_kernel.specs.States.{State}
-use Rattle.tr_hub.specs.declared.answers.Asked.{Asked}
-use Rattle.tr_workers.specs.declared.receipts.Receipts.{Receipts}
 use Rattle.tr_workers.specs.declared.scripts.Script.{Script}
-use Rattle.tr_scenario.specs.declared.faults.ScenarioFault.{ScenarioFault}
 use Rattle.tr_scenario.specs.declared.scenarios.Job.{Job}
 use Rattle.tr_scenario.specs.declared.scenarios.Job.TheVariants.{Steps, Workers}
 use Rattle.tr_scenario.specs.declared.steps.Step.{Step}
-use Rattle.tr_scenario.specs.Threaded.{IsRun, PrintsRun, RunsWorkers, item_of_step, is_manned, script_of, share_of, scripts_of, scripts_of_job, with_step, with_steps}
+use Rattle.tr_scenario.specs.Threaded.{item_of_step, is_manned, script_of, share_of, scripts_of, scripts_of_job, with_step, with_steps}
 use Rattle.tr_scenario.specs.declared.threads.Share.{Share}
 
 -- a script with the call of one step more
@@ -95,9 +90,3 @@ job_is_distinct (Workers scripts) h = both (nat_le (length scripts) 64) (no_repe
     both : (b c : Bool) → (b && c) ≡ true → c ≡ true
     both true c t = t
     both false c t = cc
-
--- what a run leaves, printed, is the run
-pub ran : {X : Type 0} (old new : List ℕ) (failures after : ℕ) (start : Start) (scripts : List Script) (turns : ℕ) (k : State) (asked : List Asked) (ws : List Receipts) (r : Result X ScenarioFault)
-    → IsRun start scripts turns k asked ws → PrintsRun old new failures after k asked ws r → RunsWorkers old new failures after start scripts turns r
-ran old new failures after start scripts turns k asked ws (Ok x) i p = (k, asked, ws, i, p)
-ran old new failures after start scripts turns k asked ws (Err e) i p = inr (k, asked, ws, i, p)

@@ -43,6 +43,7 @@ only_memory run_fault.BadStart a b = absurd (a refl)
 only_memory run_fault.Repeated a b = absurd (b refl)
 only_memory run_fault.NoMemory a b = refl
 
+-- what a run leaves, printed, is the run
 pub runs_left : {X : Type 0} (old new : List ℕ) (f f_new : ℕ) (start : Start) (scripts : List Script) (turns : ℕ) (k : State) (asked : List Asked) (ws : List Receipts) (r : Result X ScenarioFault) →
     IsRun start scripts turns k asked ws → PrintsRun old new f f_new k asked ws r → RunsWorkers old new f f_new start scripts turns r
 runs_left old new f f_new start scripts turns k asked ws (Ok x) run p = (k, asked, ws, run, p)

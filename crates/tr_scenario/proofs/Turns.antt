@@ -1,6 +1,7 @@
 -- Turns and rounds, as loops make them.
-use Rattle.std.proofs.Common.{◌≡◌, ◌≤◌, ◌<◌, ◌+◌, ◌-◌, ◌∙◌, ℕ, zero, suc, List, [], ◌∷◌, ◌++◌, ap, sym, refl, append_assoc, append-nil, length, length-append, drop_of_length-le, get_or, set, take, drop, drop-cons, add-one, Option, Some, None, Bool, true, false, ◌&&◌, is_none, map, OnOk, Result, Ok, Err, arith}
+use Rattle.std.proofs.Common.{◌≡◌, ◌≤◌, ◌<◌, ◌+◌, ◌-◌, ◌∙◌, ℕ, zero, suc, List, [], ◌∷◌, ◌++◌, ap, sym, refl, append_assoc, append-nil, length, length-append, drop_of_length-le, get_or, set, take, drop, drop-cons, add-one, Option, Some, None, Bool, true, false, is_none, map, OnOk, Result, Ok, Err, arith}
 use Rattle.std.proofs.Math.Seq.{take-append_seam}
+use Rattle.std.proofs.lemmas.Bool.{and_parts}
 use Rattle.std.specs.List.{list_all}
 use Rattle.tr_model.specs.declared.events.Event.{Event}
 use Rattle.tr_model.specs.declared.replies.Refusal.TheVariants.{NoMemory}
@@ -206,14 +207,10 @@ ended : (o : Option Event) → is_none o ≡ true → o ≡ None
 ended None h = refl
 ended (Some e) h = cc
 
-all_ended : (b c : Bool) → (b && c) ≡ true → (b ≡ true) × (c ≡ true)
-all_ended true c h = (refl, h)
-all_ended false c h = cc
-
 round_at_end : (s : runs.State) (ps : List Player) → at_end ps ≡ true → round s ps ≡ record { calls = []; players = ps }
 round_at_end s [] h = refl
 round_at_end s (p ∷ ps) h =
-    let each = all_ended (is_none (next p.calls)) (at_end ps) h in
+    let each = and_parts (is_none (next p.calls)) (at_end ps) h in
     let one = turn_at_end s p (ended (next p.calls) each.0) in
     ap (λ (x : Played). let rest : Played = round (state_after s x.calls) ps in record { calls = x.calls ++ rest.calls; players = x.players ++ rest.players }) one
     ∙ ap (λ (rest : Played). record { calls = rest.calls; players = p ∷ rest.players }) (round_at_end (state_after s []) ps each.1)

@@ -2,9 +2,10 @@
 use Rattle.std.proofs.Common.{◌≡◌, ◌∙◌, ◌==◌, ◌||◌, ℕ, ◌<◌, List, [], ◌∷◌, ◌++◌, Bool, true, false, Option, Some, None, if◌then◌else◌, cond, refl, sym, ap, subst, inl, inr, arith}
 use Rattle.std.specs.Prelude.{filter, is_some, map, not}
 use Rattle.std.specs.List.{list_all, list_any}
-use Rattle.std.proofs.lemmas.Bool.{and_parts, eq-eqb, eqb-true}
+use Rattle.std.proofs.lemmas.Bool.{and_parts, eq-eqb}
 use Rattle.std.proofs.lemmas.Bool.Decides.{nat_tests}
 use Rattle.std.proofs.lemmas.List.Folds.{list_any-append}
+use Rattle.std.proofs.lemmas.Option.{same_Some}
 use Rattle.tr_sigset.specs.Sets.{has}
 use Rattle.tr_pending.specs.declared.instance.Instance.{Instance}
 use Rattle.tr_tracee.specs.declared.thread.Thread.{Thread}
@@ -20,9 +21,11 @@ use Rattle.tr_model.specs.Tables.{Table, queue, same_target}
 use Rattle.tr_model.specs.Takes.{choices, choices_from, choices_in, goes_before, unblocked, with_number}
 use Rattle.tr_model.proofs.Among.{Among, filter_among}
 use Rattle.tr_model.proofs.Compared.{choice_waits, numbered_among}
+use Rattle.tr_model.proofs.Order.{numbered-append}
 use Rattle.tr_model.proofs.Sorted.{sorted_instances}
 use Rattle.tr_model.proofs.Takable.{all_instances, instance_numbered, numbered_is, same_number}
 use Rattle.tr_table.specs.Choices.{target_in}
+use Rattle.tr_table.proofs.Keys.{same_is}
 
 -- Where a number waits
 
@@ -48,12 +51,6 @@ waits_somewhere (w ∷ ws) n i e = go (w.instance.n == n) e (waits_somewhere ws 
     go : (b : Bool) → (if b then Some w.instance else instance_in ws n) ≡ Some i → (instance_in ws n ≡ Some i → is_some (target_in ws n) ≡ true) → is_some (if b then Some w.target else target_in ws n) ≡ true
     go true q rest = refl
     go false q rest = rest q
-
-same_is : (q r : Target) → same_target q r ≡ true → r ≡ q
-same_is (target.Thread a) (target.Thread b) e = ap target.Thread (sym (eqb-true a b e))
-same_is (target.Group a) (target.Group b) e = ap target.Group (sym (eqb-true a b e))
-same_is (target.Thread a) (target.Group b) e = cc
-same_is (target.Group a) (target.Thread b) e = cc
 
 record Queued (q : Target) (i : Instance) (ws : List Waiting) : Type 0 where
   row : Waiting
@@ -89,7 +86,7 @@ waits_there T t q n i s e =
     let k = numbered_among n i (choices_from T t q) e in
     let x = queued q i T.waiting (from_choices T t q i k.0) in
     let same : x.row.instance.n ≡ n = ap (λ z. z.n) x.instance ∙ k.1 in
-    ap (target_in T.waiting) (sym same) ∙ (target_found x.row T.waiting s x.among ∙ ap Some (same_is q x.row.target x.target))
+    ap (target_in T.waiting) (sym same) ∙ (target_found x.row T.waiting s x.among ∙ ap Some (sym (same_is q x.row.target x.target)))
 
 -- What was chosen
 
@@ -113,17 +110,6 @@ record From (T : Table) (t : Thread) (n : ℕ) (i : Instance) : Type 0 where
   there : target_in T.waiting n ≡ Some queue
   taken : taken_by T (Some t) n ≡ Some (record { number = i.n; signal = i.sig; queue = queue })
 
-one_instance : (i j : Instance) → Some i ≡ Some j → i ≡ j
-one_instance i j e = cc
-
-found_first : (n : ℕ) (j : Instance) (xs ys : List Instance) → with_number n xs ≡ Some j → with_number n (xs ++ ys) ≡ Some j
-found_first n j [] ys e = cc
-found_first n j (x ∷ xs) ys e = go (x.n == n) e (found_first n j xs ys)
-  where
-    go : (b : Bool) → (if b then Some x else with_number n xs) ≡ Some j → (with_number n xs ≡ Some j → with_number n (xs ++ ys) ≡ Some j) → (if b then Some x else with_number n (xs ++ ys)) ≡ Some j
-    go true p rest = p
-    go false p rest = rest p
-
 found_later : (n : ℕ) (i : Instance) (xs ys : List Instance) → with_number n (xs ++ ys) ≡ Some i → with_number n xs ≡ None → with_number n ys ≡ Some i
 found_later n i [] ys e f = e
 found_later n i (x ∷ xs) ys e f = go (x.n == n) e f (found_later n i xs ys)
@@ -143,7 +129,7 @@ from_where T t n i s e = go (with_number n (choices_from T t own)) refl
 
     go : (o : Option Instance) → with_number n (choices_from T t own) ≡ o → From T t n i
     go (Some j) f =
-        let same : j ≡ i = one_instance j i (sym (found_first n j (choices_from T t own) (choices_from T t shared) f) ∙ e) in
+        let same : j ≡ i = same_Some j i (sym (numbered-append n j (choices_from T t own) (choices_from T t shared) f) ∙ e) in
         let k : with_number n (choices_from T t own) ≡ Some i = f ∙ ap Some same in
         record { queue = own; there = waits_there T t own n i s k; taken = ap (λ o. taken_if own o (taken_if shared (with_number n (choices_from T t shared)) None)) k }
     go None f =

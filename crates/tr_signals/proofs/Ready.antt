@@ -1,7 +1,6 @@
 -- A thread's words say whether it can take something, and the first word that does is that of the first thread that can.
 use Rattle.std.proofs.Common.{◌≡◌, ◌==◌, ◌&&◌, ◌||◌, ◌-◌, ◌^◌, ◌<◌, ◌≤◌, ◌∙◌, ℕ, zero, suc, List, [], ◌∷◌, Bool, true, false, not, nat_le, if◌then◌else◌, cond, Option, Some, None, is_some, filter, length, arith, refl, sym, ap, subst, true≢false, inl, inr}
-use Rattle.std.proofs.lemmas.Bool.{and_parts, eq-eqb, eqb-true, or_left, or_right, ltb-true}
-use Rattle.std.proofs.lemmas.Bool.Decides.{nat_tests}
+use Rattle.std.proofs.lemmas.Bool.{and_parts, eq-eqb, eqb-true, ltb-false, ltb-true, not-true, or_left, or_right}
 use Rattle.std.proofs.lemmas.List.Folds.{find_at}
 use Rattle.std.proofs.lemmas.Nat.{and_le_r}
 use Rattle.std.proofs.lemmas.Nat.Bits.{bit_at_ones}
@@ -12,7 +11,7 @@ use Rattle.std.specs.Prelude.{nat_lt, slice_get}
 use Rattle.std.specs.Option.{option_or}
 use Rattle.tr_sigset.specs.declared.sets.SigSet.{SigSet}
 use Rattle.tr_sigset.specs.Sets.{has, in_word, word_of}
-use Rattle.tr_sigset.proofs.Members.{in_word-zero}
+use Rattle.tr_sigset.proofs.Members.{in_range, in_word-zero}
 use Rattle.tr_lanes.specs.Scans.{is_ready, ready_word, ready_words}
 use Rattle.tr_lanes.proofs.Members.{in_word-ready, some_member}
 use Rattle.tr_pending.specs.declared.instance.Instance.{Instance}
@@ -34,10 +33,6 @@ same : (a b : Bool) → (a ≡ true → b ≡ true) → (b ≡ true → a ≡ tr
 same true b f g = sym (f refl)
 same false true f g = g refl
 same false false f g = refl
-
-is_true : (b : Bool) → not b ≡ true → b ≡ false
-is_true true e = absurd (true≢false (sym e))
-is_true false e = refl
 
 -- Something is best where something waits that isn't blocked
 
@@ -66,14 +61,11 @@ best_which mask (i ∷ q) e = go (has mask i.sig) refl e (best_which mask q)
 
 -- One thread's words
 
-range_and : (n : ℕ) → (nat_le 1 n && nat_le n 64) ≡ true → n - 1 < 64
-range_and n e = grind (arith, nat_tests)
-
 in_full : (w n : ℕ) → in_word w n ≡ true → in_word (2 ^ 64 - 1) n ≡ true
 unfolding in_word
 in_full w n e =
     let range = (and_parts (nat_le 1 n && nat_le n 64) (bit_at w (n - 1) == 1) e).0 in
-    rw (range, bit_at_ones 64 (n - 1) (range_and n range)) refl
+    rw (range, bit_at_ones 64 (n - 1) (in_range n range)) refl
 
 free_live : (l : Life) → is_free l ≡ true → is_live l ≡ true
 free_live life.Free e = refl
@@ -129,7 +121,7 @@ module _ (T : Table) (t : Thread) (o b r s : ℕ) (row : IsRow T.waiting t o b r
         let m = some_member (ready_word o b s r) fits (λ z. true≢false (sym e ∙ ap is_ready z)) in
         let p = and_parts ((is_waiting m.0 own_queue || is_waiting m.0 shared_queue) && not (has t.mask m.0)) (in_word (2 ^ 64 - 1) m.0) (sym (member_is m.0) ∙ m.1) in
         let q = and_parts (is_waiting m.0 own_queue || is_waiting m.0 shared_queue) (not (has t.mask m.0)) p.0 in
-        go m.0 (is_waiting m.0 own_queue) refl q.0 (is_true (has t.mask m.0) q.1)
+        go m.0 (is_waiting m.0 own_queue) refl q.0 (not-true (has t.mask m.0) q.1)
       where
         go : (n : ℕ) (c : Bool) → is_waiting n own_queue ≡ c → (c || is_waiting n shared_queue) ≡ true → has t.mask n ≡ false → (is_some (best_of t.mask own_queue) || is_some (best_of t.mask shared_queue)) ≡ true
         go n true f w h = or_left _ _ (best_some t.mask n own_queue f h)
@@ -192,12 +184,9 @@ found_at p xs k e = go (nat_lt (position_or_len p xs) (length xs)) refl e
 pub found_none : {X : Type 0} (p : X → Bool) (xs : List X) → position p xs ≡ None → find p xs ≡ None
 found_none p xs e = go (nat_lt (position_or_len p xs) (length xs)) refl e
   where
-    past : (a b : ℕ) → nat_lt a b ≡ false → b ≤ a
-    past a b h = grind (arith, nat_tests)
-
     go : (b : Bool) → nat_lt (position_or_len p xs) (length xs) ≡ b → cond b (Some (position_or_len p xs)) None ≡ None → find p xs ≡ None
     go true h f = cc
-    go false h f = find_at p xs ∙ slice_get_past xs _ (past _ _ h)
+    go false h f = find_at p xs ∙ slice_get_past xs _ (ltb-false _ _ h)
 
 -- the thread at a place of its group
 pub member_at : (g k : ℕ) (ts : List Thread) → member g k ts ≡ slice_get (filter (in_group g) ts) k

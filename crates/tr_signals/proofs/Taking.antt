@@ -1,13 +1,10 @@
 -- What a take that is due takes, and what the model makes of it.
 use Rattle.std.proofs.Common.{◌≡◌, ◌∙◌, ℕ, true, false, Option, Some, None, Result, refl, sym, ap, subst}
 use Rattle.std.proofs.lemmas.Bool.{true≢false}
+use Rattle.std.proofs.lemmas.Option.{same_Some}
 use Rattle.tr_pending.specs.declared.instance.Instance.{Instance}
-use Rattle.tr_tracee.specs.declared.life.Life.{Life}
-use Rattle.tr_tracee.specs.declared.life.Life.TheVariants as life
 use Rattle.tr_tracee.specs.declared.life.Stop.TheVariants as stop
 use Rattle.tr_tracee.specs.declared.thread.Thread.{Thread}
-use Rattle.tr_tracee.specs.Lives.{is_free}
-use Rattle.tr_tracee.specs.Stops.{may_enter}
 use Rattle.tr_model.specs.declared.events.Event.TheVariants.{Take}
 use Rattle.tr_model.specs.declared.rows.Target.{Target}
 use Rattle.tr_model.specs.Journals.{IsSorted, queue_of, taken_by}
@@ -17,6 +14,7 @@ use Rattle.tr_model.specs.Compare.{Permits}
 use Rattle.tr_model.specs.Tables.{Table, thread_of}
 use Rattle.tr_model.specs.Takes.{choices, take, take_numbered, with_number}
 use Rattle.tr_model.proofs.Among.{some_found}
+use Rattle.tr_model.proofs.Measures.{free_may}
 use Rattle.tr_table.specs.Choices.{target_in}
 use Rattle.tr_model.specs.declared.replies.Reply.{Reply}
 use Rattle.tr_model.specs.GroupStops.{complete_group_stops}
@@ -30,19 +28,10 @@ use Rattle.tr_signals.proofs.Chosen.{chosen_is}
 
 -- A free thread that holds an instance enters its signal-delivery-stop
 
-may_free : (l : Life) → is_free l ≡ true → may_enter l ≡ true
-may_free life.Free e = refl
-may_free life.Stopped e = cc
-may_free (life.InStop s) e = cc
-may_free life.Listening e = cc
-may_free (life.Leaving e told) f = cc
-may_free (life.Dead e) f = cc
-may_free life.Execing e = cc
-
 pub hold_is : (w : Work) (t : Thread) (i : Instance) → Takes w.table t i → hold t.id i.n w ≡ entered_now (stop.Signal i false) t (pulled i w)
 hold_is w t i k =
     ap (λ o. on_thread o (λ t. on_instance (instance_in w.table.waiting i.n) (holding t)) w) k.there
-    ∙ (ap (λ o. on_instance o (holding t) w) k.waits ∙ rw (k.free, may_free t.life k.free) refl)
+    ∙ (ap (λ o. on_instance o (holding t) w) k.waits ∙ rw (k.free, free_may t.life k.free) refl)
 
 -- What is admitted
 
@@ -86,15 +75,9 @@ waits_there T id n s d = (chosen_is T d.thread n d.instance s d.chosen).waits
 
 pub took_of : (T : Table) (id n : ℕ) (t : Thread) (i : Instance) → IsSorted T.waiting → IsDue T id n → thread_of T id ≡ Some t → instance_in T.waiting n ≡ Some i → Took T id n t i
 took_of T id n t i s d e f =
-    let p : d.thread ≡ t = one_thread d.thread t (sym d.there ∙ e) in
-    let q : d.instance ≡ i = one_instance d.instance i (sym (waits_there T id n s d) ∙ f) in
+    let p : d.thread ≡ t = same_Some d.thread t (sym d.there ∙ e) in
+    let q : d.instance ≡ i = same_Some d.instance i (sym (waits_there T id n s d) ∙ f) in
     subst (λ z. Took T id n z i) p (subst (λ z. Took T id n d.thread z) q (took_is T id n s d))
-  where
-    one_thread : (a b : Thread) → Some a ≡ Some b → a ≡ b
-    one_thread a b h = cc
-
-    one_instance : (a b : Instance) → Some a ≡ Some b → a ≡ b
-    one_instance a b h = cc
 
 -- what the model says of the entry
 abbrev pub numbered_outcome : Table → ℕ → ℕ → Outcome

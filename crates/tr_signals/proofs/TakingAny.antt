@@ -1,6 +1,6 @@
 -- What is answered of a take by any thread of a group, and what one that is due takes.
-use Rattle.std.proofs.Common.{◌≡◌, ◌||◌, ◌∙◌, ℕ, List, [], ◌∷◌, Bool, true, false, not, if◌then◌else◌, cond, Option, Some, None, is_some, Result, Ok, refl, sym, ap, subst}
-use Rattle.std.specs.List.{find, list_any}
+use Rattle.std.proofs.Common.{◌≡◌, ◌∙◌, ℕ, List, [], ◌∷◌, Bool, true, false, not, if◌then◌else◌, cond, Option, Some, None, is_some, Result, Ok, refl, sym, ap, subst}
+use Rattle.std.specs.List.{find}
 use Rattle.tr_tracee.specs.declared.thread.Thread.{Thread}
 use Rattle.tr_model.specs.declared.checked.Checked.{Checked}
 use Rattle.tr_model.specs.declared.checked.Checked.TheVariants.{Due, Quiet}
@@ -15,6 +15,7 @@ use Rattle.tr_model.specs.Steps.{number, takes}
 use Rattle.tr_model.specs.Preferred.{best_for, check, quiet_or, refused_or, take_any_choice, taking_by}
 use Rattle.tr_model.specs.Tables.{Table, group_of, members, thread_of}
 use Rattle.tr_model.specs.Takes.{can_take}
+use Rattle.tr_table.proofs.Reports.{any_by_find}
 use Rattle.tr_signals.proofs.Taking.{IsDue, due_with}
 
 -- What is answered, by the first thread that can take something
@@ -26,14 +27,6 @@ choice_by T (Some t) = taking_by t.id (best_for T t)
 abbrev pub answer_by : Table → Option Thread → Result Checked Refusal
 answer_by T None = Ok (Quiet Nothing)
 answer_by T (Some t) = Ok (Due (taking_by t.id (best_for T t)))
-
-any_found : (p : Thread → Bool) (ts : List Thread) → list_any p ts ≡ is_some (find p ts)
-any_found p [] = refl
-any_found p (t ∷ ts) = go (p t) (any_found p ts)
-  where
-    go : (b : Bool) → list_any p ts ≡ is_some (find p ts) → (b || list_any p ts) ≡ is_some (cond b (Some t) (find p ts))
-    go true h = refl
-    go false h = h
 
 choice_found : (T : Table) (ts : List Thread) → take_any_choice T ts ≡ choice_by T (find (can_take T) ts)
 choice_found T [] = refl
@@ -53,7 +46,7 @@ answer_in T there o = refused_or (first_cause (unless there Srch ∷ [])) (answe
 pub check_is : (T : Table) (a g : ℕ) → check T a (TakeAny g) ≡ answer_in T (is_some (group_of T g)) (find (can_take T) (members T g))
 check_is T a g =
     let ts = members T g in
-    ap (λ b. refused_or (first_cause (unless (is_some (group_of T g)) Srch ∷ [])) (quiet_or (nothing_where (not b)) (take_any_choice T ts))) (any_found (can_take T) ts)
+    ap (λ b. refused_or (first_cause (unless (is_some (group_of T g)) Srch ∷ [])) (quiet_or (nothing_where (not b)) (take_any_choice T ts))) (any_by_find (can_take T) ts)
     ∙ (ap (λ c. refused_or (first_cause (unless (is_some (group_of T g)) Srch ∷ [])) (quiet_or (nothing_where (not (is_some (find (can_take T) ts)))) c)) (choice_found T ts)
     ∙ ap (refused_or (first_cause (unless (is_some (group_of T g)) Srch ∷ []))) (answered T (find (can_take T) ts)))
 

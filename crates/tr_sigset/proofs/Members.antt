@@ -45,7 +45,7 @@ never : (p : Bool) → (p && false) ≡ false
 never true = refl
 never false = refl
 
-in_range : (n : ℕ) → (nat_le 1 n && nat_le n 64) ≡ true → n - 1 < 64
+pub in_range : (n : ℕ) → (nat_le 1 n && nat_le n 64) ≡ true → n - 1 < 64
 in_range n e = grind (arith, nat_tests)
 
 -- the set operations
@@ -99,7 +99,7 @@ in_word-single : (s n : ℕ) → 1 ≤ s → s ≤ 64 → in_word (2 ^ (s - 1)) 
 in_word-single s n p q = grind (arith, nat_tests, single_same, single_other, single_none)
 
 -- as the code makes it
-single_word : (s : ℕ) → 1 ≤ s → s ≤ 64 → 1 * 2 ^ (s - 1) % 2 ^ 64 ≡ 2 ^ (s - 1)
+pub single_word : (s : ℕ) → 1 ≤ s → s ≤ 64 → 1 * 2 ^ (s - 1) % 2 ^ 64 ≡ 2 ^ (s - 1)
 single_word s p q = let below : 2 ^ (s - 1) < 2 ^ 64 = pow_below (s - 1) 64 (omega arith) in ap (λ w. w % 2 ^ 64) (omega arith) ∙ mod-eq_of_lt below
 
 pub in_word-with : (a s n : ℕ) → 1 ≤ s → s ≤ 64 → in_word (bit_or a (1 * 2 ^ (s - 1) % 2 ^ 64)) n ≡ (in_word a n || n == s)

@@ -1,22 +1,17 @@
 -- The record of one thread written anew, and what it held.
 use Rattle.std.proofs.Common.{◌≡◌, ◌∙◌, ℕ, ◌+◌, ◌==◌, List, [], ◌∷◌, ◌++◌, Bool, true, false, Option, Some, None, if◌then◌else◌, is_some, refl, sym, ap, arith}
 use Rattle.std.proofs.lemmas.Bool.{eqb-true}
+use Rattle.std.proofs.lemmas.Option.{none-some, same_Some}
 use Rattle.std.specs.Prelude.{IfSome}
 use Rattle.tr_pending.specs.declared.instance.Instance.{Instance}
-use Rattle.tr_tracee.specs.declared.life.Life.{Life}
-use Rattle.tr_tracee.specs.declared.life.Life.TheVariants as life
-use Rattle.tr_tracee.specs.declared.life.Stop.TheVariants as stop
 use Rattle.tr_tracee.specs.declared.thread.Thread.{Thread}
 use Rattle.tr_tracee.specs.Lives.{held}
 use Rattle.tr_tracee.specs.Stops.{listening, listening_life, restarted, restarted_life}
 use Rattle.tr_model.specs.declared.fates.Fate.{Fate}
 use Rattle.tr_model.specs.Moves.{changed, ended_by_change, ended_hold}
 use Rattle.tr_model.specs.Tables.{Table, thread_in, thread_of}
+use Rattle.tr_model.proofs.Calm.{listening_holds, restarted_holds}
 use Rattle.tr_table.specs.Held.{bool_to_nat, held_count}
-
--- a look-up has one answer
-pub same_thread : (a b : Thread) → Some a ≡ Some b → a ≡ b
-same_thread a b e = cc
 
 -- the record that is found by an id, written anew, is that record changed
 pub changed_put : (id : ℕ) (f : Thread → Thread) (ts : List Thread) (t : Thread) → thread_in ts id ≡ Some t → changed id (λ _. f t) ts ≡ changed id f ts
@@ -25,36 +20,23 @@ changed_put id f (x ∷ xs) t e = go (x.id == id) e (changed_put id f xs t)
   where
     go : (b : Bool) → (if b then Some x else thread_in xs id) ≡ Some t → (thread_in xs id ≡ Some t → changed id (λ _. f t) xs ≡ changed id f xs)
         → (if b then f t ∷ xs else x ∷ changed id (λ _. f t) xs) ≡ (if b then f x ∷ xs else x ∷ changed id f xs)
-    go true q r = ap (λ z. f z ∷ xs) (sym (same_thread x t q))
+    go true q r = ap (λ z. f z ∷ xs) (sym (same_Some x t q))
     go false q r = ap (λ zs. x ∷ zs) (r q)
 
 pub helds_put : (id : ℕ) (f : Thread → Thread) (ts : List Thread) (t : Thread) → thread_in ts id ≡ Some t → held_count (changed id f ts) + bool_to_nat (is_some (held t.life)) ≡ held_count ts + bool_to_nat (is_some (held (f t).life))
-helds_put id f [] t e = absurd (none e)
-  where
-    none : None ≡ Some t → ⊥
-    none q = cc
+helds_put id f [] t e = absurd (none-some t e)
 helds_put id f (x ∷ xs) t e = go (x.id == id) e (helds_put id f xs t)
   where
     go : (b : Bool) → (if b then Some x else thread_in xs id) ≡ Some t → (thread_in xs id ≡ Some t → held_count (changed id f xs) + bool_to_nat (is_some (held t.life)) ≡ held_count xs + bool_to_nat (is_some (held (f t).life)))
         → held_count (if b then f x ∷ xs else x ∷ changed id f xs) + bool_to_nat (is_some (held t.life)) ≡ (bool_to_nat (is_some (held x.life)) + held_count xs) + bool_to_nat (is_some (held (f t).life))
-    go true q r = rw (sym (same_thread x t q)) (omega arith)
+    go true q r = rw (sym (same_Some x t q)) (omega arith)
     go false q r = let h = r q in omega (arith, h)
 
-restarted_holds_none : (l : Life) → held (restarted_life l) ≡ None
-restarted_holds_none (life.InStop (stop.Exit w)) = refl
-restarted_holds_none (life.InStop _) = refl
-restarted_holds_none _ = refl
-
 pub helds_restarted : (ts : List Thread) (t : Thread) → thread_in ts t.id ≡ Some t → held_count (changed t.id restarted ts) + bool_to_nat (is_some (held t.life)) ≡ held_count ts
-helds_restarted ts t e = let h = helds_put t.id restarted ts t e in let q : bool_to_nat (is_some (held (restarted_life t.life))) ≡ 0 = rw (restarted_holds_none t.life) refl in omega (arith, h, q)
+helds_restarted ts t e = let h = helds_put t.id restarted ts t e in let q : bool_to_nat (is_some (held (restarted_life t.life))) ≡ 0 = rw (restarted_holds t.life) refl in omega (arith, h, q)
 
 pub ends_restarted : (fate : Fate) (t : Thread) → ended_by_change fate restarted t ≡ ended_hold fate (held t.life) None
-ends_restarted fate t = rw (restarted_holds_none t.life) refl
-
-listening_holds : (l : Life) → held (listening_life l) ≡ held l
-listening_holds (life.InStop (stop.Event x)) = refl
-listening_holds (life.InStop _) = refl
-listening_holds _ = refl
+ends_restarted fate t = rw (restarted_holds t.life) refl
 
 no_endings : (fate : Fate) (o : Option Instance) → ended_hold fate o o ≡ []
 no_endings fate None = refl
@@ -75,10 +57,7 @@ helds_added t (x ∷ xs) e = omega (arith, helds_added t xs e)
 -- a thread that is found by an id is found by its own
 
 pub id_found : (id : ℕ) (ts : List Thread) (t : Thread) → thread_in ts id ≡ Some t → t.id ≡ id
-id_found id [] t e = absurd (none e)
-  where
-    none : None ≡ Some t → ⊥
-    none q = cc
+id_found id [] t e = absurd (none-some t e)
 id_found id (x ∷ xs) t e = go (x.id == id) refl e (id_found id xs t)
   where
     go : (b : Bool) → (x.id == id) ≡ b → (if b then Some x else thread_in xs id) ≡ Some t → (thread_in xs id ≡ Some t → t.id ≡ id) → t.id ≡ id

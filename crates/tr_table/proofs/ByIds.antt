@@ -1,5 +1,5 @@
 -- The threads of a group, one after the other by their ids; and how many of them pass a test.
-use Rattle.std.proofs.Common.{◌≡◌, ◌==◌, ◌&&◌, ◌||◌, ◌+◌, ◌≤◌, ◌∙◌, ◌⊎◌, inl, inr, ℕ, zero, suc, List, [], ◌∷◌, Bool, true, false, not, Option, Some, None, cond, drop, if◌then◌else◌, filter, length, map, arith, refl, ap, sym, eq-eqb}
+use Rattle.std.proofs.Common.{◌≡◌, ◌==◌, ◌&&◌, ◌||◌, ◌≤◌, ◌∙◌, ◌⊎◌, inl, inr, ℕ, zero, suc, List, [], ◌∷◌, Bool, true, false, not, Option, Some, cond, drop, if◌then◌else◌, filter, length, map, arith, refl, ap, sym, eq-eqb}
 use Rattle.std.specs.List.{list_all, list_any}
 use Rattle.std.proofs.lemmas.Bool.{cases_eq, ne_eqb}
 use Rattle.std.proofs.lemmas.List.Folds.{list_all-map}
@@ -9,7 +9,7 @@ use Rattle.tr_model.specs.Journals.{occurs}
 use Rattle.tr_model.specs.Moves.{changed}
 use Rattle.tr_model.specs.Tables.{ids_of, thread_in}
 use Rattle.tr_table.proofs.Ids.{any_mapped}
-use Rattle.tr_table.proofs.Keeping.{fewer_kept}
+use Rattle.tr_model.proofs.Costs.{filter-le-length}
 use Rattle.tr_table.proofs.Rosters.{Same}
 use Rattle.tr_table.proofs.ThreadLists.{ids_length}
 use Rattle.tr_table.proofs.Rostering.{ids_in, occurs_in}
@@ -29,7 +29,7 @@ all_counted p [] = refl
 all_counted p (m ∷ ms) = go (p m) (all_counted p ms)
   where
     few : length (filter p ms) ≤ length (ids_of ms)
-    few = omega (arith, fewer_kept p ms, ids_length ms)
+    few = omega (arith, filter-le-length p ms, ids_length ms)
 
     more : (a b : ℕ) → (a == b) ≡ (suc a == suc b)
     more a b = by (cases_eq a b)

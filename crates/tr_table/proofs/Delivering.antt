@@ -1,5 +1,5 @@
 -- At most one instance has a number, among all that wait.
-use Rattle.std.proofs.Common.{◌≡◌, ◌∙◌, ◌<◌, ◌==◌, ℕ, List, [], ◌∷◌, Bool, true, false, Some, None, if◌then◌else◌, filter, is_some, map, not, refl, sym, ap, subst, arith}
+use Rattle.std.proofs.Common.{◌≡◌, ◌∙◌, ◌==◌, ℕ, List, [], ◌∷◌, Bool, true, false, Some, if◌then◌else◌, filter, is_some, map, not, refl, sym, ap, subst, arith}
 use Rattle.std.proofs.lemmas.Bool.Decides.{nat_tests}
 use Rattle.tr_model.specs.declared.fates.Ending.{Ending}
 use Rattle.tr_model.specs.declared.fates.Fate.TheVariants.{Delivered}

@@ -1,5 +1,5 @@
 -- The lines and the queues follow what waits, where an instance comes last or goes.
-use Rattle.std.proofs.Common.{◌≡◌, ◌∙◌, ◌+◌, ◌<◌, ◌≤◌, ◌==◌, ◌&&◌, ◌||◌, ℕ, suc, List, [], ◌∷◌, ◌++◌, Bool, true, false, Option, Some, None, if◌then◌else◌, filter, is_some, length, map, refl, sym, ap, subst, arith}
+use Rattle.std.proofs.Common.{◌≡◌, ◌∙◌, ◌+◌, ◌≤◌, ◌==◌, ◌&&◌, ◌||◌, ℕ, List, [], ◌∷◌, ◌++◌, Bool, true, false, Option, Some, None, if◌then◌else◌, filter, is_some, length, map, refl, sym, ap, subst, arith}
 use Rattle.std.proofs.lemmas.List.{append-nil, length-append, length-map, map-append}
 use Rattle.std.proofs.lemmas.List.Elements.{filter-append}
 use Rattle.indexmap.specs.IndexMap.{IndexMap}
@@ -16,7 +16,7 @@ use Rattle.tr_table.specs.declared.lines.LineKey.{LineKey}
 use Rattle.tr_table.specs.declared.lines.Queue.{Queue}
 use Rattle.tr_table.specs.Lines.{AreLines, IsQueue, is_key, line_at, line_of, longer, queue_at}
 use Rattle.tr_table.specs.Queues.{is_one}
-use Rattle.tr_table.proofs.Keeping.{fewer_kept}
+use Rattle.tr_model.proofs.Costs.{filter-le-length}
 use Rattle.tr_table.proofs.Keys.{key_is, key_self, one_is_key, same_both, same_is, same_self}
 
 -- parts of what waits
@@ -172,12 +172,12 @@ module _ {S R : Type 0} (L : IndexMap LineKey Line S) (K : IndexMap Target Queue
   pub line_few : (q : Target) (s : ℕ) (l : Line) → line_at L q s ≡ Some l → l.count ≤ length ws
   line_few q s l e =
       let n = line_count (filter (is_one q s) ws) l (sym (old.lined q s) ∙ e) in
-      let few = fewer_kept (is_one q s) ws in
+      let few = filter-le-length (is_one q s) ws in
       omega (arith, n, few)
 
   pub queue_few : (q : Target) (x : Queue) → queue_at K q ≡ Some x → x.count ≤ length ws
   queue_few q x e =
       let n = (subst (λ y. IsQueue y (queue_in q ws)) e (old.queued q)).0 in
       let m = length-map (filter (λ w. same_target q w.target) ws) (λ (w : Waiting). w.instance) in
-      let few = fewer_kept (λ w. same_target q w.target) ws in
+      let few = filter-le-length (λ w. same_target q w.target) ws in
       omega (arith, n, m, few)

@@ -1,8 +1,8 @@
 -- The first of a line, among all that waits.
-use Rattle.std.proofs.Common.{◌≡◌, ◌≢◌, ◌∙◌, ◌+◌, ◌<◌, ◌≤◌, ◌==◌, ◌&&◌, ℕ, zero, suc, not, List, [], ◌∷◌, ◌++◌, Bool, true, false, Option, Some, None, if◌then◌else◌, filter, length, map, slice_get, refl, sym, ap, subst, arith}
+use Rattle.std.proofs.Common.{◌≡◌, ◌∙◌, ◌+◌, ◌<◌, ◌==◌, ◌&&◌, ℕ, suc, not, List, [], ◌∷◌, Bool, true, false, Some, None, if◌then◌else◌, filter, map, slice_get, refl, sym, ap, arith}
 use Rattle.std.proofs.lemmas.Bool.Decides.{nat_tests}
 use Rattle.tr_pending.specs.declared.instance.Instance.{Instance}
-use Rattle.tr_pending.specs.Waiting.{first_of, is_waiting, place_of}
+use Rattle.tr_pending.specs.Waiting.{first_of, place_of}
 use Rattle.tr_model.specs.declared.rows.Target.{Target}
 use Rattle.tr_model.specs.declared.rows.Waiting.{Waiting}
 use Rattle.tr_model.specs.Journals.{AllAbove, IsSorted}

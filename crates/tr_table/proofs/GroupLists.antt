@@ -2,6 +2,7 @@
 use Rattle.std.proofs.Common.{◌≡◌, ◌==◌, ◌+◌, ◌<◌, ◌≤◌, ◌||◌, ◌∙◌, ℕ, zero, suc, List, [], ◌∷◌, Bool, true, false, not, Some, None, cond, if◌then◌else◌, filter, length, map, set, get_or, remove, take, arith, refl, ap, sym, eq-eqb}
 use Rattle.std.specs.List.{list_any}
 use Rattle.std.proofs.lemmas.List.{length-map, length-set, take-map}
+use Rattle.std.proofs.lemmas.Option.{none-some}
 use Rattle.tr_group.specs.GroupStops.{is_stopping}
 use Rattle.tr_model.specs.declared.rows.Group.{Group}
 use Rattle.tr_model.specs.Journals.{occurs}
@@ -146,15 +147,12 @@ others_kept g (x ∷ xs) h = go (x.tgid == g) h (others_kept g xs)
 pub none_kept_out : (g : ℕ) (xs : List Group) → group_in xs g ≡ None → filter (λ x. not (x.tgid == g) || false) xs ≡ xs
 none_kept_out g xs h = others_kept g xs (go xs h)
   where
-    some : (x : Group) → Some x ≡ None → ⊥
-    some x q = cc
-
     go : (ys : List Group) → group_in ys g ≡ None → occurs g (tgids_of ys) ≤ 0
     go [] e = omega arith
     go (y ∷ ys) e = by (y.tgid == g) e (go ys)
       where
         by : (b : Bool) → cond b (Some y) (group_in ys g) ≡ None → (group_in ys g ≡ None → occurs g (tgids_of ys) ≤ 0) → (if b then 1 else 0) + occurs g (tgids_of ys) ≤ 0
-        by true q r = absurd (some y q)
+        by true q r = absurd (none-some y (sym q))
         by false q r = omega (arith, r q)
 
 pub one_goes : (g : ℕ) (xs : List Group) (i : ℕ) (d : Group) → i < length xs → (get_or xs i d).tgid ≡ g → occurs g (tgids_of xs) ≤ 1 → remove xs i ≡ filter (λ x. not (x.tgid == g) || false) xs

@@ -1,5 +1,5 @@
 -- What happens to a thread's record leaves its id and its group.
-use Rattle.std.proofs.Common.{◌≡◌, ◌==◌, ◌≤◌, ℕ, suc, Bool, true, false, List, [], ◌∷◌, None, if◌then◌else◌, filter, length, map, arith, ap, refl}
+use Rattle.std.proofs.Common.{◌==◌, ℕ, Bool, true, false, List, None, if◌then◌else◌, map, refl}
 use Rattle.tr_wait.specs.declared.status.Status.{Status}
 use Rattle.tr_tracee.specs.declared.life.End.{End}
 use Rattle.tr_tracee.specs.declared.life.Stop.{Stop}
@@ -12,8 +12,7 @@ use Rattle.tr_tracee.specs.Threads.{at_group, at_thread}
 use Rattle.tr_group.specs.Members.{applied, continued_by}
 use Rattle.tr_group.specs.declared.members.MemberChange.{MemberChange}
 use Rattle.tr_group.specs.declared.members.MemberChange.TheVariants as member
-use Rattle.tr_model.specs.declared.rows.Group.{Group}
-use Rattle.tr_model.specs.Moves.{changed, group_changed}
+use Rattle.tr_model.specs.Moves.{changed}
 use Rattle.tr_table.specs.Changes.{thread_changed_by}
 use Rattle.tr_table.specs.Order.{IsRoster}
 use Rattle.tr_table.specs.declared.threads.ThreadChange.{ThreadChange}
@@ -74,21 +73,3 @@ same_by_exec id e t = go (t.id == id)
 
 pub roster_for_exec : (g id : ℕ) (e : End) (ts : List Thread) → IsRoster ts → IsRoster (map (at_group g (begun_to_leave_by_exec id e)) ts)
 roster_for_exec g id e ts h = throughout_group g (begun_to_leave_by_exec id e) (same_by_exec id e) ts h
-
--- the groups stay as few
-
-pub as_many_changed : (g : ℕ) (f : Group → Group) (xs : List Group) → length (group_changed g f xs) ≡ length xs
-as_many_changed g f [] = refl
-as_many_changed g f (x ∷ xs) = go (x.tgid == g) (as_many_changed g f xs)
-  where
-    go : (b : Bool) → length (group_changed g f xs) ≡ length xs → length (if b then f x ∷ xs else x ∷ group_changed g f xs) ≡ suc (length xs)
-    go true h = refl
-    go false h = ap suc h
-
-pub fewer_kept : {A : Type 0} (p : A → Bool) (xs : List A) → length (filter p xs) ≤ length xs
-fewer_kept p [] = omega arith
-fewer_kept p (x ∷ xs) = go (p x) (fewer_kept p xs)
-  where
-    go : (b : Bool) → length (filter p xs) ≤ length xs → length (if b then x ∷ filter p xs else filter p xs) ≤ suc (length xs)
-    go true h = omega (arith, h)
-    go false h = omega (arith, h)

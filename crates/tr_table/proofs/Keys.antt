@@ -1,5 +1,6 @@
 -- The tests that derives write are those that specs name.
 use Rattle.std.proofs.Common.{◌≡◌, ℕ, Bool, true, false, ◌&&◌, ◌==◌, refl, ap, ◌∙◌, arith}
+use Rattle.std.proofs.lemmas.Bool.{eq-eqb, eqb-true}
 use Rattle.std.proofs.lemmas.Bool.Decides.{nat_tests}
 use Rattle.tr_model.specs.contracts.rows.TargetPartialEq.TheImpl as target_test
 use Rattle.tr_model.specs.declared.rows.Target.{Target}
@@ -11,14 +12,8 @@ use Rattle.tr_model.specs.declared.rows.Waiting.{Waiting}
 use Rattle.tr_table.specs.Lines.{is_key, same_key}
 use Rattle.tr_table.specs.Queues.{is_one}
 
-both_ways : (a b : ℕ) → (a == b) ≡ (b == a)
+pub both_ways : (a b : ℕ) → (a == b) ≡ (b == a)
 both_ways a b = grind (arith, nat_tests)
-
-told : (a b : ℕ) → (a == b) ≡ true → a ≡ b
-told a b e = grind (arith, nat_tests, e)
-
-same_number : (a : ℕ) → (a == a) ≡ true
-same_number a = grind (arith, nat_tests)
 
 target_eq : (a b : Target) → target_test.ghosts.eq a b ≡ same_target a b
 target_eq (target.Thread a) (target.Thread b) = refl
@@ -44,8 +39,8 @@ same_both (target.Thread a) (target.Group b) = refl
 same_both (target.Group a) (target.Thread b) = refl
 
 pub same_is : (a b : Target) → same_target a b ≡ true → a ≡ b
-same_is (target.Thread a) (target.Thread b) e = ap target.Thread (told a b e)
-same_is (target.Group a) (target.Group b) e = ap target.Group (told a b e)
+same_is (target.Thread a) (target.Thread b) e = ap target.Thread (eqb-true a b e)
+same_is (target.Group a) (target.Group b) e = ap target.Group (eqb-true a b e)
 same_is (target.Thread a) (target.Group b) e = cc
 same_is (target.Group a) (target.Thread b) e = cc
 
@@ -61,9 +56,9 @@ pub key_is : (w : Waiting) (q : Target) (s : ℕ) → is_key w q s ≡ true → 
 key_is w q s e = go (same_target w.target q) (w.instance.sig == s) refl refl e
   where
     go : (b c : Bool) → same_target w.target q ≡ b → (w.instance.sig == s) ≡ c → (b && c) ≡ true → (w.target ≡ q) × (w.instance.sig ≡ s)
-    go true true b c h = (same_is w.target q b, told w.instance.sig s c)
+    go true true b c h = (same_is w.target q b, eqb-true w.instance.sig s c)
     go true false b c h = cc
     go false c b d h = cc
 
 pub key_self : (w : Waiting) → is_one w.target w.instance.sig w ≡ true
-key_self w = ap (λ b. b && (w.instance.sig == w.instance.sig)) (same_self w.target) ∙ same_number w.instance.sig
+key_self w = ap (λ b. b && (w.instance.sig == w.instance.sig)) (same_self w.target) ∙ eq-eqb w.instance.sig w.instance.sig refl

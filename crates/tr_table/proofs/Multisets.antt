@@ -1,5 +1,5 @@
 -- Numbers that rise, each counted as often as it stands there.
-use Rattle.std.proofs.Common.{ltb, ◌≡◌, ◌==◌, ◌+◌, ◌<◌, ◌≤◌, ◌∙◌, ◌⊎◌, inl, inr, ℕ, zero, suc, List, [], ◌∷◌, Bool, true, false, not, Result, Ok, Err, is_ok, if◌then◌else◌, length, get_or, remove, arith, refl, ap, sym, eq-eqb, subst}
+use Rattle.std.proofs.Common.{ltb, ◌≡◌, ◌==◌, ◌+◌, ◌<◌, ◌≤◌, ◌⊎◌, inl, inr, ℕ, zero, suc, List, [], ◌∷◌, Bool, true, false, not, Result, Ok, Err, is_ok, if◌then◌else◌, length, get_or, remove, arith, refl, ap, sym, eq-eqb, subst}
 use Rattle.std.specs.List.{insert}
 use Rattle.std.specs.List.Sorted.{IsBinarySearchResult, IsNonDecreasing, IsPartitionPoint}
 use Rattle.std.specs.Ordering.{nat_cmp}

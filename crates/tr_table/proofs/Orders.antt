@@ -1,9 +1,8 @@
 -- Numbers of what waits, with one less or one more.
-use Rattle.std.proofs.Common.{◌≡◌, ◌+◌, ◌<◌, ◌≤◌, ℕ, List, [], ◌∷◌, ◌++◌, Bool, true, false, if◌then◌else◌, map, arith}
-use Rattle.std.specs.Prelude.{filter}
+use Rattle.std.proofs.Common.{◌+◌, ◌≤◌, ℕ, List, [], ◌∷◌, ◌++◌, true, false, if◌then◌else◌, arith}
 use Rattle.tr_model.specs.declared.rows.Target.{Target}
 use Rattle.tr_model.specs.declared.rows.Waiting.{Waiting}
-use Rattle.tr_model.specs.Journals.{AllAbove, AllUpTo, IsSorted}
+use Rattle.tr_model.specs.Journals.{AllUpTo, IsSorted}
 use Rattle.tr_table.specs.Queues.{AllBelow, is_one, without_one}
 use Rattle.tr_model.proofs.Sorted.{above_more}
 

@@ -1,8 +1,7 @@
 -- The place of the first thread or group with an id.
 use Rattle.std.proofs.Common.{◌≡◌, ◌+◌, ◌<◌, ◌≤◌, ◌==◌, ℕ, suc, Bool, true, false, List, [], ◌∷◌, Option, Some, None, cond, length, get_or, remove, set, nat_lt, if◌then◌else◌, arith, ap, refl, sym, subst, map, ◌∙◌}
 use Rattle.std.specs.List.{position, position_or_len}
-use Rattle.std.proofs.lemmas.Bool.{eqb-true}
-use Rattle.std.proofs.lemmas.Bool.Decides.{nat_tests}
+use Rattle.std.proofs.lemmas.Bool.{eqb-true, ltb-false, ltb-true}
 use Rattle.std.proofs.lemmas.List.{length-map}
 use Rattle.std.specs.Prelude.{slice_get}
 use Rattle.std.proofs.lemmas.List.Recursion.{is_position_or_len}
@@ -11,12 +10,6 @@ use Rattle.tr_model.specs.declared.rows.Group.{Group}
 use Rattle.tr_model.specs.Moves.{changed, dropped, group_changed}
 use Rattle.tr_model.specs.Tables.{group_in, ids_of, thread_in}
 use Rattle.tr_table.specs.Private.{IsGroupPlace, IsPlace, tgids_of}
-
-below : (m n : ℕ) → nat_lt m n ≡ true → m < n
-below m n h = grind (arith, nat_tests)
-
-past : (m n : ℕ) → nat_lt m n ≡ false → n ≤ m
-past m n h = grind (arith, nat_tests)
 
 -- how many stand before the first that passes
 abbrev pub first : {X : Type 0} → (X → Bool) → List X → ℕ
@@ -35,8 +28,8 @@ pub by_place : {X : Type 0} (p : X → Bool) (xs : List X) (P : Option ℕ → T
 by_place p xs P some none = subst (λ n. P (cond (nat_lt n (length xs)) (Some n) None)) (first_is p xs) (go (nat_lt (first p xs) (length xs)) refl)
   where
     go : (b : Bool) → nat_lt (first p xs) (length xs) ≡ b → P (cond b (Some (first p xs)) None)
-    go true h = some (below _ _ h)
-    go false h = none (past _ _ h)
+    go true h = some (ltb-true _ _ h)
+    go false h = none (ltb-false _ _ h)
 
 -- the place of a record is that of its id
 pub position_mapped : {X : Type 0} (p : ℕ → Bool) (f : X → ℕ) (xs : List X) → position p (map f xs) ≡ position (λ x. p (f x)) xs

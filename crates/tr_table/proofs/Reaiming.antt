@@ -1,5 +1,5 @@
 -- Where nothing waits for a thread, nothing comes to wait for another.
-use Rattle.std.proofs.Common.{◌≡◌, ◌∙◌, ◌==◌, ℕ, List, [], ◌∷◌, Bool, true, false, if◌then◌else◌, filter, length, map, refl, sym, ap, arith}
+use Rattle.std.proofs.Common.{◌≡◌, ◌==◌, ℕ, List, [], ◌∷◌, Bool, true, false, if◌then◌else◌, filter, length, map, refl, sym, ap, arith}
 use Rattle.std.proofs.lemmas.Bool.Decides.{nat_tests}
 use Rattle.tr_model.specs.declared.rows.Target.{Target}
 use Rattle.tr_model.specs.declared.rows.Target.TheVariants as target

@@ -1,5 +1,5 @@
 -- What a change of the list of all threads makes of the roster of a group.
-use Rattle.std.proofs.Common.{◌≡◌, ◌==◌, ◌&&◌, ◌+◌, ◌-◌, ◌<◌, ◌≤◌, ◌∙◌, ℕ, zero, suc, List, [], ◌∷◌, ◌++◌, Bool, true, false, not, cond, if◌then◌else◌, filter, length, set, get_or, remove, take, arith, refl, ap, sym, eq-eqb, ◌⊎◌, inl, inr}
+use Rattle.std.proofs.Common.{◌≡◌, ◌==◌, ◌&&◌, ◌+◌, ◌<◌, ◌≤◌, ◌∙◌, ℕ, zero, suc, List, [], ◌∷◌, ◌++◌, Bool, true, false, not, cond, if◌then◌else◌, filter, length, set, get_or, remove, take, arith, refl, ap, sym, eq-eqb, ◌⊎◌, inl, inr}
 use Rattle.std.specs.List.{list_any}
 use Rattle.std.proofs.lemmas.Bool.{cases_eq, ne_eqb}
 use Rattle.std.proofs.lemmas.List.{take_more}
@@ -14,7 +14,7 @@ use Rattle.tr_table.specs.Held.{bool_to_nat}
 use Rattle.tr_table.specs.Private.{IsThreads}
 use Rattle.tr_table.specs.Rosters.{Counts, IsSmall, RosterView, no_one, rewritten, roster_in, roster_of, unless_empty, with_last, without}
 use Rattle.tr_table.proofs.Indexing.{once_pushed, once_removed}
-use Rattle.tr_table.proofs.Keeping.{fewer_kept}
+use Rattle.tr_model.proofs.Costs.{filter-le-length}
 use Rattle.tr_table.proofs.Rosters.{in_all, is_of}
 use Rattle.tr_table.proofs.ThreadLists.{ids_append, ids_length, ids_removed, ids_written}
 
@@ -206,10 +206,10 @@ roster_gone g ts i d h once = go (t.group == g) refl all
 
 pub small : (ms : List Thread) → length ms ≤ 64 → IsSmall (roster_of ms)
 small ms h = record {
-  live = omega (arith, h, fewer_kept (λ (x : Thread). is_live x.life) ms);
-  dead = omega (arith, h, fewer_kept (λ (x : Thread). is_dead x.life) ms);
-  traced = omega (arith, h, fewer_kept is_traced ms);
-  marked = omega (arith, h, fewer_kept (λ (x : Thread). x.stop_mark) ms);
+  live = omega (arith, h, filter-le-length (λ (x : Thread). is_live x.life) ms);
+  dead = omega (arith, h, filter-le-length (λ (x : Thread). is_dead x.life) ms);
+  traced = omega (arith, h, filter-le-length is_traced ms);
+  marked = omega (arith, h, filter-le-length (λ (x : Thread). x.stop_mark) ms);
 }
 
 pub counts_one : (ts : List Thread) (i : ℕ) (d : Thread) → i < length ts → Counts (get_or ts i d) (roster_of (filter (in_group (get_or ts i d).group) ts))

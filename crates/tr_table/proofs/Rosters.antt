@@ -6,10 +6,10 @@ use Rattle.tr_tracee.specs.declared.thread.Thread.{Thread}
 use Rattle.tr_tracee.specs.Lives.{is_dead}
 use Rattle.tr_tracee.specs.Threads.{in_group}
 use Rattle.tr_group.specs.Members.{at_place, count_in, member, put_member, put_place}
-use Rattle.tr_model.specs.Journals.{occurs}
 use Rattle.tr_model.specs.Moves.{changed, dropped, in_leaders_row, renamed}
-use Rattle.tr_model.specs.Tables.{ids_of, thread_in}
-use Rattle.tr_model.proofs.Ids.{has_id}
+use Rattle.tr_model.specs.Tables.{thread_in}
+use Rattle.tr_model.proofs.Between.{ids_total}
+use Rattle.tr_model.proofs.Ids.{has_id, none_has}
 use Rattle.tr_model.proofs.Measures.{total, total-append, total_dropped, total_filter, total_less, total_same}
 use Rattle.tr_model.proofs.OneFate.{one}
 use Rattle.tr_table.specs.Order.{IsRoster}
@@ -18,14 +18,6 @@ use Rattle.tr_table.specs.Order.{IsRoster}
 
 abbrev pub is_of : ℕ → Thread → ℕ
 is_of g t = one (t.group == g)
-
-one_if : (b : Bool) → one b ≡ (if b then 1 else 0)
-one_if true = refl
-one_if false = refl
-
-pub with_id : (n : ℕ) (ts : List Thread) → total (has_id n) ts ≡ occurs n (ids_of ts)
-with_id n [] = refl
-with_id n (t ∷ ts) = omega (arith, one_if (t.id == n), with_id n ts)
 
 pub in_all : (g : ℕ) (ts : List Thread) → total (is_of g) ts ≡ length (filter (in_group g) ts)
 in_all g [] = refl
@@ -45,10 +37,10 @@ counted g (t ∷ ts) = go (t.group == g) (counted g ts)
     go false h = h
 
 by_totals : (ts : List Thread) → ((n : ℕ) → total (has_id n) ts ≤ 1) → ((g : ℕ) → total (is_of g) ts ≤ 64) → IsRoster ts
-by_totals ts d f = record { distinct = λ n. omega (arith, with_id n ts, d n); few = λ g. omega (arith, in_all g ts, f g) }
+by_totals ts d f = record { distinct = λ n. omega (arith, ids_total n ts, d n); few = λ g. omega (arith, in_all g ts, f g) }
 
 one_at_most : (n : ℕ) (ts : List Thread) → IsRoster ts → total (has_id n) ts ≤ 1
-one_at_most n ts h = omega (arith, with_id n ts, h.distinct n)
+one_at_most n ts h = omega (arith, ids_total n ts, h.distinct n)
 
 few_at_most : (g : ℕ) (ts : List Thread) → IsRoster ts → total (is_of g) ts ≤ 64
 few_at_most g ts h = omega (arith, in_all g ts, h.few g)
@@ -114,17 +106,6 @@ roster_filter p ts h =
     (λ g. omega (arith, total_filter (is_of g) p ts, few_at_most g ts h))
 
 -- a thread of a new id comes
-
-none_has : (n : ℕ) (ts : List Thread) → thread_in ts n ≡ None → total (has_id n) ts ≡ 0
-none_has n [] e = refl
-none_has n (t ∷ ts) e = go (t.id == n) e (none_has n ts)
-  where
-    some : Some t ≡ None → ⊥
-    some q = cc
-
-    go : (b : Bool) → (if b then Some t else thread_in ts n) ≡ None → (thread_in ts n ≡ None → total (has_id n) ts ≡ 0) → one b + total (has_id n) ts ≡ 0
-    go true q r = absurd (some q)
-    go false q r = omega (arith, r q)
 
 pub roster_added : (t : Thread) (ts : List Thread) → thread_in ts t.id ≡ None → length (filter (in_group t.group) ts) < 64 → IsRoster ts → IsRoster (ts ++ t ∷ [])
 roster_added t ts new room h = by_totals (ts ++ t ∷ []) (λ n. once n (cases_eq t.id n)) (λ g. fits g (cases_eq t.group g))

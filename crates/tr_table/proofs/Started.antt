@@ -7,7 +7,6 @@ use Rattle.std.proofs.lemmas.List.{length-map}
 use Rattle.std.specs.Prelude.{IsTrue}
 use Rattle.std.specs.List.{list_all, list_any}
 use Rattle.tr_sigset.specs.declared.sets.SigSet.{SigSet}
-use Rattle.tr_tracee.specs.declared.thread.Thread.{Thread}
 use Rattle.tr_model.specs.Journals.{occurs}
 use Rattle.tr_model.specs.Tables.{ids_of}
 use Rattle.tr_model.proofs.Among.{occurs-append}
@@ -19,6 +18,7 @@ use Rattle.tr_table.specs.Starts.{all_started, group_started, ids_started, is_go
 use Rattle.tr_table.specs.declared.starts.GroupStart.{GroupStart}
 use Rattle.tr_table.specs.declared.starts.Start.{Start}
 use Rattle.tr_table.proofs.Rosters.{in_all, is_of}
+use Rattle.tr_table.proofs.ThreadLists.{ids_append}
 
 -- ids
 
@@ -41,10 +41,6 @@ once n (x ∷ xs) h = let parts = and_parts (not (list_any (λ y. y == x) xs)) (
     go : list_any (λ y. y == x) xs ≡ false → occurs n xs ≤ 1 → (x ≡ n) ⊎ (x ≡ n → ⊥) → occurs n (x ∷ xs) ≤ 1
     go none rest (inl e) = rw (eq-eqb x n e) (omega (arith, ap (λ m. occurs m xs) e, none_occurs x xs none))
     go none rest (inr e) = rw (ne_eqb x n e) (omega (arith, rest))
-
-ids_append : (xs ys : List Thread) → ids_of (xs ++ ys) ≡ ids_of xs ++ ids_of ys
-ids_append [] ys = refl
-ids_append (x ∷ xs) ys = ap (λ l. x.id ∷ l) (ids_append xs ys)
 
 group_ids : (g : ℕ) (ts : List (ℕ × SigSet)) → ids_of (map (thread_started g) ts) ≡ map (λ t. t.0) ts
 group_ids g [] = refl

@@ -2,6 +2,7 @@
 use Rattle.std.proofs.Common.{◌≡◌, ◌==◌, ◌+◌, ◌<◌, ◌≤◌, ◌&&◌, ◌||◌, ◌∙◌, ℕ, zero, suc, List, [], ◌∷◌, ◌++◌, Bool, true, false, not, Some, None, cond, if◌then◌else◌, filter, length, map, set, get_or, remove, take, drop, arith, refl, ap, sym, eq-eqb}
 use Rattle.std.specs.List.{list_any}
 use Rattle.std.proofs.lemmas.List.{length-map, take_more}
+use Rattle.std.proofs.lemmas.Option.{none-some}
 use Rattle.tr_tracee.specs.declared.thread.Thread.{Thread}
 use Rattle.tr_tracee.specs.Lives.{is_dead}
 use Rattle.tr_model.specs.Journals.{occurs}
@@ -52,16 +53,13 @@ pub ids_length : (ts : List Thread) → length (ids_of ts) ≡ length ts
 ids_length [] = refl
 ids_length (t ∷ ts) = ap suc (ids_length ts)
 
-some : (t : Thread) → Some t ≡ None → ⊥
-some t q = cc
-
 -- no thread has the id, so the id isn't there
 pub no_id : (ts : List Thread) (id : ℕ) → thread_in ts id ≡ None → list_any (λ n. n == id) (ids_of ts) ≡ false
 no_id [] id e = refl
 no_id (t ∷ ts) id e = go (t.id == id) e (no_id ts id)
   where
     go : (b : Bool) → cond b (Some t) (thread_in ts id) ≡ None → (thread_in ts id ≡ None → list_any (λ n. n == id) (ids_of ts) ≡ false) → (b || list_any (λ n. n == id) (ids_of ts)) ≡ false
-    go true q r = absurd (some t q)
+    go true q r = absurd (none-some t (sym q))
     go false q r = r q
 
 pub new_id_at : (ts : List Thread) (i : ℕ) (d : Thread) → i < length ts → ((n : ℕ) → occurs n (ids_of ts) ≤ 1) → list_any (λ n. n == (get_or ts i d).id) (ids_of (take i ts)) ≡ false
@@ -100,7 +98,7 @@ none_goes id [] e = refl
 none_goes id (t ∷ ts) e = go (t.id == id) e (none_goes id ts)
   where
     go : (b : Bool) → cond b (Some t) (thread_in ts id) ≡ None → (thread_in ts id ≡ None → left id ts ≡ ts) → cond (not (b && is_dead t.life)) (t ∷ left id ts) (left id ts) ≡ t ∷ ts
-    go true q r = absurd (some t q)
+    go true q r = absurd (none-some t (sym q))
     go false q r = ap (λ us. t ∷ us) (r q)
 
 there : (id : ℕ) (ts : List Thread) (i : ℕ) (d : Thread) → i < length ts → (get_or ts i d).id ≡ id → 1 ≤ occurs id (ids_of ts)

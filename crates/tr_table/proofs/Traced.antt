@@ -1,8 +1,8 @@
 -- What a change of the list of all threads makes of what is kept for the waits of tracers.
 use Rattle.std.proofs.Common.{◌≡◌, ◌==◌, ◌||◌, ◌+◌, ◌<◌, ◌≤◌, ◌∙◌, ◌⊎◌, inl, inr, ℕ, zero, suc, List, [], ◌∷◌, ◌++◌, Bool, true, false, Option, Some, None, cond, if◌then◌else◌, filter, is_some, length, nat_lt, set, get_or, remove, take, arith, refl, ap, sym, eq-eqb}
-use Rattle.std.specs.List.{insert, list_any, position}
-use Rattle.std.specs.List.Sorted.{IsPartitionPoint, IsPartitionedBy}
-use Rattle.std.proofs.lemmas.Bool.{cases_eq, cases_lt, le-ltb, lt-ltb, ne_eqb}
+use Rattle.std.specs.List.{list_any, position}
+use Rattle.std.specs.List.Sorted.{IsPartitionedBy}
+use Rattle.std.proofs.lemmas.Bool.{cases_lt, le-ltb, lt-ltb, ne_eqb}
 use Rattle.std.proofs.lemmas.List.{length-set}
 use Rattle.tr_tracee.specs.declared.thread.Thread.{Thread}
 use Rattle.tr_model.specs.Journals.{occurs}
@@ -10,7 +10,7 @@ use Rattle.tr_model.specs.Tables.{ids_of}
 use Rattle.tr_model.proofs.Measures.{total, total-append}
 use Rattle.tr_table.specs.Held.{bool_to_nat}
 use Rattle.tr_table.specs.Tracing.{IsMultiset, MultisetView, is_before, is_number, relisted}
-use Rattle.tr_table.proofs.Keeping.{fewer_kept}
+use Rattle.tr_model.proofs.Costs.{filter-le-length}
 use Rattle.tr_table.proofs.Places.{by_place, first}
 use Rattle.tr_table.proofs.Rostering.{occurs_in, total_gone, total_written}
 
@@ -64,13 +64,13 @@ module _ (key : Thread → Option ℕ) (ts : List Thread) (v : MultisetView) (h 
 
   -- there is a place for what it becomes
   pub place_for : (y : Thread) → length ts ≤ v.places → length v.numbers + bool_to_nat (is_some (key y)) ≤ v.places + bool_to_nat (is_some (key (get_or ts i d)))
-  place_for y room = omega (arith, room, h.sized, count_written (λ t. is_some (key t)) ts i d y l, fewer_kept (λ t. is_some (key t)) (set ts i y), length-set ts i y)
+  place_for y room = omega (arith, room, h.sized, count_written (λ t. is_some (key t)) ts i d y l, filter-le-length (λ t. is_some (key t)) (set ts i y), length-set ts i y)
 
   pub place_left : length ts ≤ v.places → length v.numbers + bool_to_nat false ≤ v.places + bool_to_nat (is_some (key (get_or ts i d)))
-  place_left room = omega (arith, room, h.sized, fewer_kept (λ t. is_some (key t)) ts)
+  place_left room = omega (arith, room, h.sized, filter-le-length (λ t. is_some (key t)) ts)
 
 pub place_after : (key : Thread → Option ℕ) (ts : List Thread) (v : MultisetView) → IsMultiset key ts v → length ts + 1 ≤ v.places → length v.numbers < v.places
-place_after key ts v h room = omega (arith, room, h.sized, fewer_kept (λ t. is_some (key t)) ts)
+place_after key ts v h room = omega (arith, room, h.sized, filter-le-length (λ t. is_some (key t)) ts)
 
 -- the ids of those that pass a test, and how many of them stand before a place
 

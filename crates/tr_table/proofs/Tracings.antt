@@ -1,5 +1,5 @@
 -- What is kept for the waits of tracers, as one: a thread of the list, what it becomes, and one that goes or comes.
-use Rattle.std.proofs.Common.{◌≡◌, ◌+◌, ◌<◌, ◌≤◌, ◌++◌, ◌∷◌, [], ◌∙◌, ℕ, List, Bool, true, false, Option, None, filter, if◌then◌else◌, is_some, length, length-append, set, get_or, remove, take, arith, ap, subst, sym}
+use Rattle.std.proofs.Common.{◌≡◌, ◌+◌, ◌<◌, ◌≤◌, ◌++◌, ◌∷◌, [], ◌∙◌, ℕ, List, false, Option, None, filter, if◌then◌else◌, is_some, length, length-append, set, get_or, remove, take, arith, ap, subst, sym}
 use Rattle.std.specs.List.Sorted.{IsPartitionedBy}
 use Rattle.std.proofs.lemmas.List.{length-set}
 use Rattle.std.proofs.lemmas.List.Edits.{length-remove}
@@ -7,8 +7,8 @@ use Rattle.tr_tracee.specs.declared.thread.Thread.{Thread}
 use Rattle.tr_model.specs.Journals.{occurs}
 use Rattle.tr_model.specs.Tables.{ids_of}
 use Rattle.tr_table.specs.Held.{bool_to_nat}
-use Rattle.tr_table.specs.Tracing.{HasPlace, HasPlaces, IsMultiset, IsTracing, MultisetView, TracingView, is_before, is_number, is_reporting, relisted, tracer, waiter}
-use Rattle.tr_table.proofs.Keeping.{fewer_kept}
+use Rattle.tr_table.specs.Tracing.{HasPlace, HasPlaces, IsTracing, MultisetView, TracingView, is_before, is_number, is_reporting, relisted, tracer, waiter}
+use Rattle.tr_model.proofs.Costs.{filter-le-length}
 use Rattle.tr_table.proofs.ThreadLists.{ids_length}
 use Rattle.tr_table.proofs.Traced.{counts_it, list_added, list_gone, list_written, parts_count, parts_parted, place_after, place_for, place_left, ranked, multiset_added, multiset_gone, multiset_written, within_kept}
 
@@ -107,7 +107,7 @@ pub has_place : (ts : List Thread) (v : TracingView) (n : ℕ) → IsTracing ts 
 has_place ts v n h room l = record {
   tracers = place_after tracer ts v.tracers h.tracers (omega (arith, room.tracers, l));
   waiters = place_after waiter ts v.waiters h.waiters (omega (arith, room.waiters, l));
-  reporting = omega (arith, room.reporting, l, ap (λ (ns : List ℕ). length ns) h.reporting, ids_length (filter is_reporting ts), fewer_kept is_reporting ts);
+  reporting = omega (arith, room.reporting, l, ap (λ (ns : List ℕ). length ns) h.reporting, ids_length (filter is_reporting ts), filter-le-length is_reporting ts);
 }
 
 pub fewer_places : (m n : ℕ) (v : TracingView) → m ≤ n → HasPlaces n v → HasPlaces m v

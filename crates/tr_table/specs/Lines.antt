@@ -1,6 +1,6 @@
 -- The lines and the queues of all that waits. A line is what waits of one signal for one target.
-use Rattle.std.specs.Prelude.{◌≡◌, ℕ, ◌+◌, ◌<◌, ◌≤◌, Bool, ◌&&◌, ◌==◌, List, [], ◌∷◌, Option, Some, None, filter, length, is_some, if◌then◌else◌}
-use Rattle.indexmap.specs.IndexMap.{IndexMap, get, index_map_len, spare}
+use Rattle.std.specs.Prelude.{◌≡◌, ℕ, ◌+◌, ◌<◌, Bool, ◌&&◌, ◌==◌, List, [], ◌∷◌, Option, Some, None, filter, length}
+use Rattle.indexmap.specs.IndexMap.{IndexMap, get}
 use Rattle.tr_pending.specs.declared.instance.Instance.{Instance}
 use Rattle.tr_pending.specs.Waiting.{IsMask}
 use Rattle.tr_model.specs.declared.rows.Target.{Target}

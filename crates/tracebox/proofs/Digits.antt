@@ -3,6 +3,7 @@ use Rattle.std.proofs.Common.{◌≡◌, ◌∙◌, ◌<◌, ◌≤◌, ◌^◌,
 use Rattle.std.proofs.Math.Nat.{pow-le-pow_right}
 use Rattle.std.proofs.lemmas.Grind.{common_steps}
 use Rattle.std.proofs.lemmas.Int.Digits.{digits_value-lt}
+use Rattle.std.proofs.lemmas.Option.{none-some, same_Some}
 use Rattle.std.specs.Char.{is_ascii_hexdigit, digit_value}
 use Rattle.std.specs.List.{list_all}
 use Rattle.std.specs.Result.{result_ok}
@@ -46,12 +47,6 @@ reads t r h p = rw h (read_at t t r refl h p (no_sign t (all_of t h)))
 
 -- Turns
 
-some_same : (m n : ℕ) → Some m ≡ Some n → m ≡ n
-some_same m n e = cc
-
-none_some : (n : ℕ) → None ≡ Some n → ⊥
-none_some n e = cc
-
 are_digits : (ds : List ℕ) → list_all (λ d. nat_lt (digit_value d) 10) ds ≡ true → AllDigits 10 ds
 are_digits [] h = tt
 are_digits (d ∷ ds) h = grind (arith, common_steps, h, are_digits ds)
@@ -75,9 +70,9 @@ are_read t h =
 -- a number in range is the turns of its text
 pub turns_read : {E : Type 0} (t : List ℕ) (n : ℕ) (r : Result ℕ E) → result_ok r ≡ Some n → ParsesUnsigned 64 10 t r → 1 ≤ n → n ≤ 100000000 → turns_value t ≡ Some n
 turns_read t n (Ok m) e p least most =
-    let value : n ≡ digits_value 10 (without_leading_plus t) = sym (some_same m n e) ∙ p.1 in
+    let value : n ≡ digits_value 10 (without_leading_plus t) = sym (same_Some m n e) ∙ p.1 in
     rw (is_in t p.0.0 p.0.1 (omega (arith, value, least)) (omega (arith, value, most))) (ap Some (sym value))
-turns_read t n (Err x) e p least most = absurd (none_some n e)
+turns_read t n (Err x) e p least most = absurd (none-some n e)
 
 -- a text that isn't read has none
 turns_unless : (b : Bool) (n : ℕ) → (b ≡ true → ⊥) → (if b then Some n else None) ≡ None
@@ -85,5 +80,5 @@ turns_unless true n h = absurd (h refl)
 turns_unless false n h = refl
 
 pub turns_unread : {E : Type 0} (t : List ℕ) (r : Result ℕ E) → result_ok r ≡ None → ParsesUnsigned 64 10 t r → turns_value t ≡ None
-turns_unread t (Ok m) e p = absurd (none_some m (sym e))
+turns_unread t (Ok m) e p = absurd (none-some m (sym e))
 turns_unread t (Err x) e p = turns_unless (is_unsigned_in 1 100000000 t) (digits_value 10 (without_leading_plus t)) (λ h. p (are_read t h))

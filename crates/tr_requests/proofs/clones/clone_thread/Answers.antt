@@ -1,4 +1,5 @@
 use Rattle.std.proofs.Common.{◌≡◌, ◌∙◌, Some, ap, is_some, refl, sym, true}
+use Rattle.std.proofs.lemmas.Option.{same_Some}
 use Rattle.std.specs.Prelude.{option_copied}
 use Rattle.tr_tracee.specs.Ends.{child}
 use Rattle.tr_tracee.specs.Lives.{is_free}
@@ -8,7 +9,7 @@ use Rattle.tr_model.specs.GroupStops.{complete_group_stops}
 use Rattle.tr_model.specs.Moves.{added, begin, on_thread, when}
 use Rattle.tr_model.specs.Tables.{stop_in_effect, thread_of}
 use Rattle.tr_steps.proofs.Put.{found_again}
-use Rattle.tr_requests.proofs.Cloning.{is_clone, no_thread, same_thread, spawns}
+use Rattle.tr_requests.proofs.Cloning.{is_clone, no_thread, spawns}
 use Rattle.tr_requests.proofs.clones.clone_thread.Goals as goal
 
 pub add-requires-clause-new_id : goal.add-requires-clause-new_id
@@ -24,7 +25,7 @@ returns-clause-did c =
     let id = c.args.id in
     let d = is_clone T c.args.actor c.args.tid id c.requires.due in
     let e : thread_of T c.args.tid ≡ Some t = ap (λ U. thread_of U c.args.tid) (sym c.table.ensures) ∙ sym c.find.ensures.found ∙ ap option_copied c.unwrap.ensures in
-    let s : d.thread ≡ t = same_thread d.thread t (sym d.there ∙ e) in
+    let s : d.thread ≡ t = same_Some d.thread t (sym d.there ∙ e) in
     let free : is_free t.life ≡ true = ap (λ x. is_free x.life) (sym s) ∙ d.free in
     let m : c.is_some-stop_mark.result ≡ is_some (stop_in_effect T t.group) = c.is_some-stop_mark.ensures ∙ ap is_some c.stop_now.ensures in
     let p = spawns T c.args.tid id (is_some (stop_in_effect T t.group)) t e (found_again T c.args.tid t e) free in

@@ -1,4 +1,4 @@
-use Rattle.std.proofs.Common.{◌≡◌, ◌==◌, ◌+◌, ◌<◌, ◌≤◌, ◌∙◌, ℕ, List, Some, filter, length, get_or, remove, set, if◌then◌else◌, arith, ap, refl, subst, sym}
+use Rattle.std.proofs.Common.{◌≡◌, ◌==◌, ◌<◌, ◌≤◌, ◌∙◌, ℕ, List, Some, filter, length, get_or, remove, set, if◌then◌else◌, arith, ap, refl, subst, sym}
 use Rattle.std.proofs.lemmas.Bool.{ne_eqb}
 use Rattle.tr_tracee.specs.declared.thread.Thread.{Thread}
 use Rattle.tr_tracee.specs.Threads.{in_group}

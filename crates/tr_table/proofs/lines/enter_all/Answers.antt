@@ -1,4 +1,4 @@
-use Rattle.std.proofs.Common.{◌≡◌, ◌∙◌, ◌+◌, ◌<◌, ◌≤◌, ◌++◌, ◌∷◌, [], List, false, true, ap, arith, get_or, length, rules, subst, sym, take}
+use Rattle.std.proofs.Common.{◌≡◌, ◌∙◌, ◌+◌, ◌<◌, ◌++◌, ◌∷◌, [], List, false, true, ap, arith, get_or, length, rules, subst, sym, take}
 use Rattle.std.proofs.lemmas.List.{length-append, length-take-le}
 use Rattle.indexmap.specs.IndexMap.{index_map_len, spare}
 use Rattle.tr_table.specs.declared.slots.Slot.{Slot}

@@ -1,4 +1,4 @@
-use Rattle.std.proofs.Common.{◌≡◌, ◌≤◌, ◌+◌, length, take}
+use Rattle.std.proofs.Common.{◌≤◌, ◌+◌, length, take}
 use Rattle.indexmap.specs.IndexMap.{index_map_len, spare}
 use Rattle.tr_table.specs.Lines.{AreLines}
 use Rattle.tr_table.specs.Slots.{standing}

@@ -1,4 +1,4 @@
-use Rattle.std.proofs.Common.{◌≡◌, ◌∙◌, ◌++◌, ◌∷◌, rules, sym, ap, subst, Some, refl, if◌then◌else◌}
+use Rattle.std.proofs.Common.{◌≡◌, ◌∙◌, rules, ap, Some, if◌then◌else◌}
 use Rattle.tr_table.specs.Lines.{is_key, line_at}
 use Rattle.tr_table.proofs.lines.leave_line.Goals as goal
 

@@ -1,4 +1,4 @@
-use Rattle.std.proofs.Common.{◌≡◌, ◌∙◌, ◌-◌, None, Some, rules, sym, ap, arith}
+use Rattle.std.proofs.Common.{◌≡◌, ◌∙◌, ◌-◌, None, Some, rules, ap}
 use Rattle.tr_table.proofs.LeftLines.{left_empty, left_first, left_next, left_none}
 use Rattle.tr_table.specs.Lines.{first_number}
 use Rattle.tr_table.specs.Slots.{line_in}

@@ -1,4 +1,4 @@
-use Rattle.std.proofs.Common.{◌≡◌, ◌∙◌, ap, filter, not, rules, subst, sym}
+use Rattle.std.proofs.Common.{◌∙◌, ap, not, rules, subst, sym}
 use Rattle.std.proofs.lemmas.Fn.{filter_same}
 use Rattle.tr_model.specs.Journals.{IsSorted}
 use Rattle.tr_table.specs.declared.slots.Slot.{Slot}

@@ -1,4 +1,4 @@
-use Rattle.std.proofs.Common.{◌≡◌, ◌+◌, ◌-◌, ◌<◌, List, arith, get_or, length, rules, true}
+use Rattle.std.proofs.Common.{◌≡◌, ◌-◌, ◌<◌, List, arith, get_or, length, rules, true}
 use Rattle.tr_table.specs.declared.slots.Slot.{Slot}
 use Rattle.tr_table.proofs.Standing.{standing_less}
 use Rattle.tr_table.proofs.slots.ends_empty.Goals as goal

@@ -1,10 +1,10 @@
-use Rattle.std.proofs.Common.{◌≡◌, ◌==◌, ◌++◌, ◌∷◌, [], ◌∙◌, ◌<◌, ◌+◌, ℕ, List, Bool, false, true, is_ok, if◌then◌else◌, remove, filter, length, length-append, arith, ap, sym}
+use Rattle.std.proofs.Common.{◌≡◌, ◌==◌, ◌++◌, ◌∷◌, [], ◌∙◌, ◌+◌, ℕ, List, Bool, false, true, is_ok, if◌then◌else◌, remove, filter, length, length-append, arith, ap, sym}
 use Rattle.std.specs.List.{list_any}
 use Rattle.tr_tracee.specs.declared.thread.Thread.{Thread}
 use Rattle.tr_tracee.specs.Threads.{in_group}
 use Rattle.tr_table.proofs.ThreadLists.{ids_length, last_removed, no_id}
 use Rattle.tr_table.proofs.Rostering.{is_small, kept_added}
-use Rattle.tr_table.proofs.Tracings.{has_place, places_added}
+use Rattle.tr_table.proofs.Tracings.{has_place}
 use Rattle.tr_table.proofs.threads.append.Goals as goal
 
 pub push-requires : goal.push-requires

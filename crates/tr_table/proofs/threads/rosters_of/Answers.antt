@@ -1,8 +1,8 @@
-use Rattle.std.proofs.Common.{◌≡◌, ◌==◌, ◌+◌, ◌<◌, ◌++◌, ◌∷◌, [], ◌∙◌, ℕ, List, filter, length, take, get_or, if◌then◌else◌, arith, ap, subst, sym}
+use Rattle.std.proofs.Common.{◌≡◌, ◌==◌, ◌+◌, ◌<◌, ◌++◌, ◌∷◌, [], ◌∙◌, List, filter, length, take, if◌then◌else◌, arith, ap, subst, sym}
 use Rattle.std.proofs.lemmas.List.{take_more}
 use Rattle.tr_tracee.specs.declared.thread.Thread.{Thread}
 use Rattle.tr_tracee.specs.Threads.{in_group}
-use Rattle.tr_table.specs.Rosters.{IsSmall, RosterView, roster_in, roster_of, with_last}
+use Rattle.tr_table.specs.Rosters.{RosterView, roster_of, with_last}
 use Rattle.tr_table.proofs.ThreadLists.{ids_length}
 use Rattle.tr_table.proofs.Rostering.{room_before, roster_added, small}
 use Rattle.tr_table.proofs.threads.rosters_of.Goals as goal

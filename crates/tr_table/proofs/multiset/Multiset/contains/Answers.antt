@@ -1,4 +1,4 @@
-use Rattle.std.proofs.Common.{◌∙◌, ◌==◌, ℕ, List, not, ap}
+use Rattle.std.proofs.Common.{◌∙◌, ◌==◌, not, ap}
 use Rattle.tr_model.specs.Journals.{occurs}
 use Rattle.tr_table.specs.Tracing.{MultisetView}
 use Rattle.tr_table.proofs.Multisets.{has_it, result}

@@ -1,4 +1,4 @@
-use Rattle.std.proofs.Common.{◌≡◌, ◌+◌, ◌==◌, ◌∙◌, ◌<◌, ◌≤◌, ℕ, List, Result, Ok, Err, length, get_or, arith, ap, sym, subst}
+use Rattle.std.proofs.Common.{◌+◌, ◌==◌, ◌∙◌, ◌≤◌, ℕ, List, Ok, Err, ap, sym, subst}
 use Rattle.tr_model.specs.Journals.{occurs}
 use Rattle.tr_table.specs.Held.{bool_to_nat}
 use Rattle.tr_table.specs.Tracing.{MultisetView}

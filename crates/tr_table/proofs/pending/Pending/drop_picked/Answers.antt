@@ -1,4 +1,4 @@
-use Rattle.std.proofs.Common.{◌≡◌, ◌∙◌, ◌+◌, ◌<◌, ◌++◌, List, Bool, true, false, ap, arith, drop, get_or, length, map, refl, rules, set, subst, sym, take}
+use Rattle.std.proofs.Common.{◌≡◌, ◌∙◌, ◌+◌, ◌<◌, ◌++◌, List, Bool, ap, arith, drop, get_or, length, map, rules, set, subst, sym, take}
 use Rattle.std.proofs.lemmas.List.{set-get_or}
 use Rattle.std.proofs.lemmas.List.Edits.{map_over_more}
 use Rattle.tr_model.specs.declared.rows.Waiting.{Waiting}

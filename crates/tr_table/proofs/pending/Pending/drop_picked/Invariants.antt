@@ -1,4 +1,4 @@
-use Rattle.std.proofs.Common.{◌≡◌, ◌++◌, drop, map, take, vec_len}
+use Rattle.std.proofs.Common.{◌≡◌, ◌++◌, drop, map, take}
 use Rattle.tr_table.specs.Changes.{is_picked}
 use Rattle.tr_table.specs.Slots.{IsPending, without_picked}
 use Rattle.tr_table.proofs.pending.Pending.drop_picked.Given as goal

@@ -1,4 +1,4 @@
-use Rattle.std.proofs.Common.{◌≡◌, ◌∙◌, ap, sym, rules, Some, None}
+use Rattle.std.proofs.Common.{◌≡◌, ◌∙◌, sym, rules, Some, None}
 use Rattle.tr_table.specs.Lines.{line_at}
 use Rattle.tr_table.specs.Slots.{standing}
 use Rattle.tr_table.proofs.Firsts.{first_line, first_none}

@@ -1,4 +1,4 @@
-use Rattle.std.proofs.Common.{◌≡◌, ◌∙◌, ◌++◌, [], ap, append-nil, arith, filter, length, map, sym}
+use Rattle.std.proofs.Common.{◌∙◌, ◌++◌, ap, append-nil, arith, length, map, sym}
 use Rattle.tr_model.specs.declared.fates.Fate.TheVariants.{Flushed}
 use Rattle.tr_model.specs.Moves.{ending_of}
 use Rattle.tr_table.specs.Changes.{is_picked}

@@ -1,7 +1,7 @@
-use Rattle.std.proofs.Common.{◌≡◌, ◌∙◌, ap, sym, subst, rules, Some, None, true, false, get_or, if◌then◌else◌}
+use Rattle.std.proofs.Common.{◌≡◌, ◌∙◌, ap, sym, rules, Some, None, true, false, get_or, if◌then◌else◌}
 use Rattle.tr_model.specs.Moves.{instance_in}
 use Rattle.tr_table.specs.declared.slots.Slot.{Slot}
-use Rattle.tr_table.specs.Slots.{all_in, standing}
+use Rattle.tr_table.specs.Slots.{all_in}
 use Rattle.tr_table.proofs.Standing.{at_place, none_standing}
 use Rattle.tr_table.proofs.pending.Pending.instance.Goals as goal
 

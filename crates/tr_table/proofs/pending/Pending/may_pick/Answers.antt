@@ -1,4 +1,4 @@
-use Rattle.std.proofs.Common.{◌≡◌, ◌==◌, ◌&&◌, false, ap, length, rules, subst, sym}
+use Rattle.std.proofs.Common.{◌≡◌, ◌&&◌, false, ap, length, rules, subst, sym}
 use Rattle.std.specs.List.{list_any}
 use Rattle.tr_sigset.specs.Sets.{has}
 use Rattle.tr_model.specs.Tables.{same_target}

@@ -1,4 +1,4 @@
-use Rattle.std.proofs.Common.{◌≡◌, ◌∙◌, ◌+◌, ◌<◌, ◌≤◌, ◌++◌, ◌∷◌, ℕ, List, Bool, true, false, drop, filter, get_or, is_some, length, set, slice_set, take, ap, arith, rules, subst, sym}
+use Rattle.std.proofs.Common.{◌≡◌, ◌∙◌, ◌+◌, ◌<◌, ◌++◌, ◌∷◌, ℕ, List, true, drop, filter, get_or, length, set, slice_set, take, ap, arith, rules, subst, sym}
 use Rattle.std.proofs.lemmas.List.{length-append}
 use Rattle.tr_model.specs.declared.rows.Waiting.{Waiting}
 use Rattle.tr_model.specs.Journals.{IsSorted}

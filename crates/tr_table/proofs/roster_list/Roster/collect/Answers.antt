@@ -1,8 +1,8 @@
-use Rattle.std.proofs.Common.{◌≡◌, ◌==◌, ◌+◌, ◌<◌, ◌∙◌, ℕ, List, Bool, true, filter, length, take, get_or, if◌then◌else◌, arith, ap, subst, sym}
+use Rattle.std.proofs.Common.{◌≡◌, ◌==◌, ◌+◌, ◌∙◌, Bool, filter, take, get_or, if◌then◌else◌, arith, ap, sym}
 use Rattle.std.proofs.lemmas.Bool.{eq-eqb, ne_eqb}
 use Rattle.tr_tracee.specs.declared.thread.Thread.{Thread}
 use Rattle.tr_tracee.specs.Threads.{in_group}
-use Rattle.tr_table.specs.Rosters.{RosterView, roster_of, with_last}
+use Rattle.tr_table.specs.Rosters.{roster_of, with_last}
 use Rattle.tr_table.proofs.ThreadLists.{ids_length}
 use Rattle.tr_table.proofs.Rostering.{collected, room_for, small}
 use Rattle.tr_table.proofs.roster_list.Roster.collect.Goals as goal

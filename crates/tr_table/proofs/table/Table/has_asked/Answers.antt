@@ -1,4 +1,4 @@
-use Rattle.std.proofs.Common.{◌≡◌, ◌∙◌, List, filter, is_some, ap, sym}
+use Rattle.std.proofs.Common.{◌∙◌, filter, is_some, ap, sym}
 use Rattle.std.specs.List.{list_any}
 use Rattle.tr_tracee.specs.declared.thread.Thread.{Thread}
 use Rattle.tr_tracee.specs.Threads.{is_tracee_of}

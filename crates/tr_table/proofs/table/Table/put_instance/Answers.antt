@@ -1,6 +1,4 @@
 use Rattle.std.proofs.Common.{◌≤◌, ap}
-use Rattle.tr_table.specs.Queues.{AllBelow}
-use Rattle.tr_table.specs.Slots.{standing}
 use Rattle.tr_table.proofs.Orders.{up_to_last}
 use Rattle.tr_table.proofs.table.Table.put_instance.Goals as goal
 

@@ -1,4 +1,4 @@
-use Rattle.std.proofs.Common.{◌≡◌, ◌∙◌, Bool, find, ap, sym}
+use Rattle.std.proofs.Common.{◌∙◌, Bool, find, ap, sym}
 use Rattle.tr_tracee.specs.declared.thread.Thread.{Thread}
 use Rattle.tr_wait.specs.Words.{asks_for}
 use Rattle.tr_model.specs.Waits.{asked_tracees}

@@ -1,7 +1,6 @@
-use Rattle.std.proofs.Common.{◌∙◌, ◌≤◌, List, filter, ap, sym, subst}
+use Rattle.std.proofs.Common.{◌∙◌, List, filter, ap}
 use Rattle.tr_tracee.specs.declared.thread.Thread.{Thread}
 use Rattle.tr_tracee.specs.Threads.{in_group}
-use Rattle.tr_model.specs.Journals.{occurs}
 use Rattle.tr_model.specs.Tables.{ids_of}
 use Rattle.tr_table.specs.Rosters.{RosterView}
 use Rattle.tr_table.proofs.threads.Threads.member_ids.Goals as goal

@@ -1,9 +1,8 @@
-use Rattle.std.proofs.Common.{◌∙◌, ◌==◌, ◌&&◌, ◌||◌, ◌≤◌, ℕ, List, Bool, Option, false, true, filter, ap, sym}
+use Rattle.std.proofs.Common.{◌∙◌, ◌==◌, ◌||◌, ◌≤◌, ℕ, List, Bool, Option, true, filter, ap}
 use Rattle.std.specs.List.{list_all}
 use Rattle.std.specs.Option.{option_map_or}
-use Rattle.tr_sigset.specs.Sets.{has}
 use Rattle.tr_tracee.specs.declared.thread.Thread.{Thread}
-use Rattle.tr_tracee.specs.Lives.{is_dead, is_live}
+use Rattle.tr_tracee.specs.Lives.{is_dead}
 use Rattle.tr_tracee.specs.Threads.{in_group}
 use Rattle.tr_model.specs.Journals.{occurs}
 use Rattle.tr_model.specs.Tables.{ids_of, thread_in}

@@ -1,6 +1,6 @@
 use Rattle.std.proofs.Common.{◌≡◌, ◌==◌, ◌<◌, ℕ, List, length, get_or, set, if◌then◌else◌, subst, sym}
 use Rattle.tr_tracee.specs.declared.thread.Thread.{Thread}
-use Rattle.tr_table.specs.Rosters.{Counts, IsSmall, rewritten, roster_in}
+use Rattle.tr_table.specs.Rosters.{Counts, rewritten, roster_in}
 use Rattle.tr_table.proofs.Rostering.{is_counted, is_small, is_there, kept_written}
 use Rattle.tr_table.specs.Tracing.{IsTracing}
 use Rattle.tr_table.proofs.Tracings.{places_written}

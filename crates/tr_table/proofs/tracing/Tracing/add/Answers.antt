@@ -1,4 +1,4 @@
-use Rattle.std.proofs.Common.{◌≡◌, ◌∙◌, ◌++◌, ◌∷◌, [], ℕ, List, Bool, None, if◌then◌else◌, is_some, ap, subst, sym, vec_capacity}
+use Rattle.std.proofs.Common.{◌≡◌, ◌∙◌, ◌++◌, ◌∷◌, [], Bool, None, if◌then◌else◌, is_some, ap, subst, sym, vec_capacity}
 use Rattle.tr_table.specs.Tracing.{IsTracing, TracingView, tracer, waiter}
 use Rattle.tr_table.proofs.Tracings.{Recounts, traced_added}
 use Rattle.tr_table.proofs.tracing.Tracing.add.Goals as goal

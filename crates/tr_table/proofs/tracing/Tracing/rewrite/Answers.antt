@@ -1,8 +1,7 @@
-use Rattle.std.proofs.Common.{◌≡◌, ◌+◌, ◌<◌, ◌≤◌, ◌∙◌, ℕ, List, Bool, false, Option, None, filter, is_some, length, get_or, ap, subst, sym, refl, vec_capacity}
-use Rattle.tr_tracee.specs.declared.thread.Thread.{Thread}
+use Rattle.std.proofs.Common.{◌≡◌, ◌+◌, ◌≤◌, ◌∙◌, Bool, filter, is_some, length, subst, sym, vec_capacity}
 use Rattle.tr_table.specs.Held.{bool_to_nat}
-use Rattle.tr_table.specs.Tracing.{HasPlaces, IsTracing, TracingView, is_before, relisted, tracer, waiter}
-use Rattle.tr_table.proofs.Tracings.{MayRecount, Recounts, may_trace, may_unwait, may_untrace, may_wait, parted, place, there, traced_gone, traced_written}
+use Rattle.tr_table.specs.Tracing.{HasPlaces, IsTracing, TracingView, is_before, relisted, tracer}
+use Rattle.tr_table.proofs.Tracings.{Recounts, may_trace, may_wait, parted, place, there, traced_written}
 use Rattle.tr_table.proofs.tracing.Tracing.rewrite.Goals as goal
 
 pub relist-requires-clause-parted : goal.relist-requires-clause-parted
