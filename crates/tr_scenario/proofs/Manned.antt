@@ -9,10 +9,9 @@ use Rattle.tr_scenario.specs.declared.faults.ScenarioFault.TheVariants.{BadField
 use Rattle.tr_scenario.specs.declared.scenarios.Job.{Job}
 use Rattle.tr_scenario.specs.declared.scenarios.Job.TheVariants.{Steps, Workers}
 use Rattle.tr_scenario.specs.declared.scenarios.Scenario.{Scenario}
-use Rattle.tr_scenario.specs.Fields.{◌>>=◌, each, field_at, id_at, list_at, needed, no_key_but, number_at}
-use Rattle.tr_scenario.specs.Groups.{group_of}
-use Rattle.tr_scenario.specs.Scenarios.{job_key, job_of, repeats_actor, repeats_in_start, walk}
-use Rattle.tr_scenario.specs.Steps.{count_of, steps_at}
+use Rattle.tr_scenario.specs.Fields.{◌>>=◌, each, field_at, needed, no_key_but, number_at}
+use Rattle.tr_scenario.specs.Scenarios.{job_key, job_of, repeats_actor, repeats_in_start, start_of, walk}
+use Rattle.tr_scenario.specs.Steps.{count_of, step_of, steps_at}
 use Rattle.tr_scenario.specs.Threaded.{is_manned}
 use Rattle.tr_scenario.specs.Workers.{worker_of, workers_at}
 
@@ -67,15 +66,14 @@ either false r s h k = k
 of_job : (version : ℕ) (d : Data) → Holds IsFew (job_of version d)
 unfolding job_of
 of_job version d =
-    either (version == 1) _ _ (last (steps_at (codes "steps") d) _ (λ steps. record { holds = tt }))
+    either (version == 1) _ _ (last (steps_at (codes "steps") step_of d) _ (λ steps. record { holds = tt }))
     (after (workers_at (codes "workers") d) _ (at_workers (codes "workers") d) (λ scripts h. record { holds = h }))
 
 pub walked_few : (d : Data) → Holds (λ s. IsFew s.job) (walk d)
 unfolding walk
 walked_few d =
-    last (number_at (codes "version") 1 2 d) _ (λ version. last (id_at (codes "limit") d) _ (λ limit. last (id_at (codes "entries") d) _ (λ entries.
-    last (list_at (codes "groups") group_of d) _ (λ groups. after (job_of version d) _ (of_job version d) (λ job h.
-    last (no_key_but (codes "version" ∷ codes "limit" ∷ codes "entries" ∷ codes "groups" ∷ job_key version ∷ []) d) _ (λ k. record { holds = h }))))))
+    last (number_at (codes "version") 1 2 d) _ (λ version. last (start_of d) _ (λ start. after (job_of version d) _ (of_job version d) (λ job h.
+    last (no_key_but (codes "version" ∷ codes "limit" ∷ codes "entries" ∷ codes "groups" ∷ job_key version ∷ []) d) _ (λ k. record { holds = h }))))
 
 -- Distinct
 

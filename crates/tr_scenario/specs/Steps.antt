@@ -1,5 +1,5 @@
 -- What a JSON value means as a step, and how often a call is made.
-use Rattle.std.specs.Prelude.{ℕ, ◌+◌, ◌-◌, ◌^◌, List, ◌∷◌, nat_le, if◌then◌else◌, Option, Some, None, Result, Ok, Err, codes}
+use Rattle.std.specs.Prelude.{ℕ, ◌+◌, ◌-◌, ◌^◌, List, [], ◌∷◌, ◌++◌, nat_le, if◌then◌else◌, Option, Some, None, Result, Ok, Err, codes}
 use Rattle.serde_json.specs.Data.{Data, Items, no_items, item}
 use Rattle.serde_json.specs.Find.{as_array, get}
 use Rattle.tr_scenario.specs.declared.faults.ScenarioFault.{ScenarioFault}
@@ -18,24 +18,28 @@ times_in (Some v) = number_in 1 100000 v
 unfoldable pub times_of : Data → Result ℕ ScenarioFault
 times_of d = times_in (get (codes "times") d)
 
--- a step: its actor, its event, how often it is made, and no other key
-unfoldable pub step_of : Data → Result Step ScenarioFault
-step_of d = do
+-- a step: its actor, its event, how often it is made, and no key but these and its event's fields
+unfoldable pub step_among : List (List ℕ) → Data → Result Step ScenarioFault
+step_among keys d = do
   actor ← number_at (codes "actor") 1 (2 ^ 32 - 1) d
   kind ← kind_at (codes "do") d
   event ← event_of kind d
   times ← times_of d
-  _ ← no_key_but (codes "actor" ∷ codes "do" ∷ codes "times" ∷ fields_of kind) d
+  _ ← no_key_but (keys ++ fields_of kind) d
   Ok (record { actor = actor; event = event; times = times })
+
+-- a step with no further key
+unfoldable pub step_of : Data → Result Step ScenarioFault
+step_of d = step_among (codes "actor" ∷ codes "do" ∷ codes "times" ∷ []) d
 
 -- how many members a list has
 abbrev pub count_of : Items → ℕ
 count_of no_items = 0
 count_of (item d ds) = count_of ds + 1
 
--- too many steps are met before the first of them
-unfoldable pub steps_at : List ℕ → Data → Result (List Step) ScenarioFault
-steps_at key d = do
+-- a list of steps, each read so; too many are met before the first of them
+unfoldable pub steps_at : {A : Type 0} → List ℕ → (Data → Result A ScenarioFault) → Data → Result (List A) ScenarioFault
+steps_at key f d = do
   v ← field_at key d
   ds ← needed (as_array v)
-  if nat_le (count_of ds) 10000 then each step_of ds else Err TooLarge
+  if nat_le (count_of ds) 10000 then each f ds else Err TooLarge

@@ -1,7 +1,7 @@
 ghost use Rattle.std.specs.Prelude.{◌≡◌};
 ghost use Rattle.serde_json.specs.View.{view};
 ghost use Rattle.tr_scenario.specs.Fields.{Gives};
-ghost use Rattle.tr_scenario.specs.Scenarios.{job_key, job_of, walk};
+ghost use Rattle.tr_scenario.specs.Scenarios.{job_key, job_of, start_of, walk};
 
 use crate::faults::ScenarioFault;
 use crate::fields::{field, id, list, no_key_but, number};
@@ -35,18 +35,26 @@ pub fn walk(alloc: Global, value: &Value) -> Result<Scenario, ScenarioFault>
     ensures { Gives (λ s. s) result (walk (view value.now)) }
 {
     let version = number(value, "version", 1, 2)?;
-    let limit = id(value, "limit")?;
-    let entries = id(value, "entries")?;
-    let groups = list(alloc, field(value, "groups")?)?;
+    let start = start(alloc, value)?;
     let job = job_of(alloc, version, value)?;
     let keys = ["version", "limit", "entries", "groups", job_key(version)];
     no_key_but(value, &keys, &[])?;
-    let start = Start {
+    Ok(Scenario { start, job })
+}
+
+/// Reads where a kernel starts from: `limit`, `entries` and `groups`.
+#[tactic(auto, unfolding(crate::specs::Scenarios::start_of))]
+pub fn start(alloc: Global, value: &Value) -> Result<Start, ScenarioFault>
+    ensures { Gives (λ s. s) result (start_of (view value.now)) }
+{
+    let limit = id(value, "limit")?;
+    let entries = id(value, "entries")?;
+    let groups = list(alloc, field(value, "groups")?)?;
+    Ok(Start {
         groups,
         limit,
         entries,
-    };
-    Ok(Scenario { start, job })
+    })
 }
 
 #[tactic(auto, unfolding(crate::specs::Scenarios::job_of))]

@@ -1,0 +1,14 @@
+use Rattle.std.proofs.Common.{rules, lit<}
+use Rattle.std.proofs.lemmas.Iterator.{YieldsList-from_zip}
+use Rattle.std.proofs.lemmas.Iterator.Search.{all_from_yields_List}
+use Rattle.std.proofs.lemmas.Iterator.Splits.{YieldsList-from_str_split}
+use Rattle.tr_answers.specs.Fits.{fits_word}
+use Rattle.tr_answers.proofs.expected.fit_in_turn.Goals as goal
+
+pub returns : goal.returns
+returns c =
+    all_from_yields_List (λ p. fits_word p.0 p.1) c.all.new.self _ _ c.all.ensures.ran
+    (YieldsList-from_zip {s = c.zip.result}
+    (YieldsList-from_str_split 32 c.args.expected.now (lit< tt) (cc) (cc) (cc))
+    (YieldsList-from_str_split 32 c.args.text.now (lit< tt) (cc) (cc) (cc)))
+    (λ x b q k. search rules)

@@ -1,0 +1,94 @@
+ghost use Rattle.std.specs.Prelude.{◌≡◌, ◌≢◌, ◌==◌, ◌<◌, ◌^◌, ℕ, decimal, length, IfOk, MatchOption};
+ghost use Rattle.std.specs.List.{list_all, zip};
+ghost use Rattle.tr_answers.specs.Fits.{FitsClonesOpenly, clone_text, fits, fits_word, is_open, words};
+
+use itoa::Buffer;
+use std::alloc::{AllocError, Global};
+use std::marker::Model;
+
+/// What another system answered to a call, as `serial` prints it after the event's name. A word of it may be `_`, which
+/// fits any word.
+#[derive(Debug, Drop)]
+pub struct Expected {
+    text: String,
+}
+
+impl Model for Expected {
+    ghost use Rattle.std.specs.Prelude.{ℕ, List, string_bytes};
+
+    ghost Value = { List ℕ };
+
+    ghost view = { λ e. string_bytes e.text };
+}
+
+impl Expected {
+    /// Copies a text.
+    pub fn new(alloc: Global, text: &str) -> Result<Expected, AllocError>
+        ensures { IfOk result (λ e. e ≡ text.now) }
+    {
+        let text = String::from_str(alloc, text)?;
+        Ok(Expected { text })
+    }
+
+    /// Gives the text back.
+    pub fn as_str(&self) -> &str
+        ensures { result.now ≡ self.now }
+    {
+        self.text.as_str()
+    }
+
+    /// Tells whether a printed answer has as many words, each of which fits.
+    pub fn fits(&self, text: &str) -> bool
+        ensures { result ≡ fits self.now text.now }
+    {
+        let expected = self.as_str();
+        has_as_many_words(expected, text) && fit_in_turn(expected, text)
+    }
+
+    /// Tells whether some word is `_`.
+    pub fn is_open(&self) -> bool
+        ensures { result ≡ is_open self.now }
+    {
+        self.as_str().split(' ').any(|word| word == "_")
+    }
+
+    /// Gives the id of a new thread, where the text is `cloned` and that id as `serial` prints it. Another text fits no
+    /// clone's answer, unless some word of it is `_`.
+    pub fn new_id(&self) -> Option<u32>
+        ensures { MatchOption result (FitsClonesOpenly self.now)
+            (λ id. self.now ≡ clone_text id) }
+    {
+        let digits = self.as_str().strip_prefix("cloned ")?;
+        number_of(digits)
+    }
+}
+
+fn has_as_many_words(expected: &str, text: &str) -> bool
+    ensures { result ≡ length (words expected.now) == length (words text.now) }
+{
+    expected.split(' ').count() == text.split(' ').count()
+}
+
+/// Tells whether the words fit, up to the end of the shorter text.
+fn fit_in_turn(expected: &str, text: &str) -> bool
+    ensures { result
+        ≡ list_all (λ p. fits_word p.0 p.1) (zip (words expected.now) (words text.now)) }
+{
+    expected
+        .split(' ')
+        .zip(text.split(' '))
+        .all(|(expected, word)| expected == "_" || expected == word)
+}
+
+/// Gives the number that these are the digits of, as it is printed: with no sign, and with no zero before others.
+fn number_of(digits: &str) -> Option<u32>
+    ensures { MatchOption result ((n : ℕ) → n < 2 ^ 32 → digits.now ≢ decimal n)
+        (λ n. digits.now ≡ decimal n) }
+{
+    let number: u32 = digits.parse().ok()?;
+    if Buffer::new().format(number) == digits {
+        Some(number)
+    } else {
+        None
+    }
+}

@@ -1,0 +1,93 @@
+use super::*;
+
+/// What is expected, what is printed, and whether it fits.
+const FITS: &str = r#"sent 1 pending|sent 1 pending|yes
+sent 1 pending|sent 2 pending|no
+sent 1 pending|sent 1|no
+sent 1|sent 1 pending|no
+sent _ pending|sent 30 pending|yes
+sent _ pending|sent  pending|yes
+sent _ pending|sent pending|no
+sent _ _|sent 1 pending|yes
+_ _ _|sent 1 pending|yes
+_ _|sent 1 pending|no
+_|nothing|yes
+_|ESRCH 3|no
+__|nothing|no
+_x|_x|yes
+nothing|nothing|yes
+nothing|Nothing|no
+nothing|nothing |no
+nothing |nothing|no
+nothing |nothing |yes
+||yes
+|ok|no
+ok||no
+_||yes
+took 10 7 64 _ caught|took 10 7 64 -1 caught|yes
+waited 10 137f 2|waited 10 137F 2|no"#;
+
+#[test]
+fn fits_word_by_word(rt: HostRuntime) -> Result<(), Fail> {
+    for line in FITS.lines() {
+        let (expected, rest) = line.split_once('|').ok_or("a case")?;
+        let (text, want) = rest.split_once('|').ok_or("a case")?;
+        let fits = Expected::new(rt.alloc(), expected)?.fits(text);
+        assert_eq!(rt; fits, want == "yes", "{line}");
+    }
+    Ok(())
+}
+
+fn is_open(rt: &impl AllocGlobal, text: &str) -> Result<bool, Fail> {
+    Ok(Expected::new(rt.alloc(), text)?.is_open())
+}
+
+#[test]
+fn a_word_is_open(rt: HostRuntime) -> Result<(), Fail> {
+    for text in ["_", "sent _ pending", "_ 1", "cloned _"] {
+        assert!(rt; is_open(&rt, text)?, "{text}");
+    }
+    for text in ["", " ", "nothing", "__", "cloned_", "_a b_", "take_any"] {
+        assert!(rt; !is_open(&rt, text)?, "{text}");
+    }
+    Ok(())
+}
+
+fn new_id(rt: &impl AllocGlobal, text: &str) -> Result<Option<u32>, Fail> {
+    Ok(Expected::new(rt.alloc(), text)?.new_id())
+}
+
+#[test]
+fn names_a_new_thread(rt: HostRuntime) -> Result<(), Fail> {
+    assert_eq!(rt; new_id(&rt, "cloned 11")?, Some(11));
+    assert_eq!(rt; new_id(&rt, "cloned 0")?, Some(0));
+    assert_eq!(rt; new_id(&rt, "cloned 4294967295")?, Some(4294967295));
+    Ok(())
+}
+
+/// One a line.
+const NO_IDS: &str = "\
+cloned
+cloned 
+cloned _
+cloned 011
+cloned 00
+cloned +11
+cloned -1
+cloned 4294967296
+cloned 99999999999999999999
+cloned  11
+ cloned 11
+cloned 11 
+cloned 1a
+Cloned 11
+nothing
+_ 11";
+
+#[test]
+fn names_no_thread(rt: HostRuntime) -> Result<(), Fail> {
+    for text in NO_IDS.lines() {
+        assert_eq!(rt; new_id(&rt, text)?, None, "{text}");
+    }
+    Ok(())
+}
