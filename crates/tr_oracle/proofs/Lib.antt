@@ -1,1 +1,5 @@
 pub mod Finding
+pub mod Earliest
+pub mod Complete
+pub mod Sound
+pub mod First

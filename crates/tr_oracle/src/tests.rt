@@ -1,3 +1,5 @@
+mod offers;
+
 use super::{Told, Unheard, Verdict, compare};
 use std::process::Abort;
 use std::test::Fail;

@@ -19,7 +19,7 @@ pub use execs::{check_exec, check_finish, exec, finish};
 pub use questions::{check_event_message, check_signal_info};
 pub use reports::{admits_starter_wait, admits_wait, waited_by, waited_by_starter};
 pub use restarts::{check_cont, check_detach, check_listen, cont, detach, listen};
-pub use starter_waits::{check_starter_wait, starter_wait};
+pub use starter_waits::{check_starter_wait, is_note_shown, starter_wait};
 pub use tracers::{check_tracer_exit, tracer_exit};
 pub use tracing::{
     attach, check_attach, check_interrupt, check_seize, check_set_options, interrupt, seize,

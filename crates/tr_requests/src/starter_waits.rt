@@ -79,7 +79,7 @@ fn is_note_wanted(flags: WaitFlags, note: &Option<Report>) -> bool
 }
 
 /// Whether a group has a note that the flags ask for, while nobody traces the group.
-fn is_note_shown(table: &Table, flags: WaitFlags, group: &Group) -> bool
+pub fn is_note_shown(table: &Table, flags: WaitFlags, group: &Group) -> bool
     ensures { result
         ≡ (not (has_traced table.now.table group.now.tgid) && note_wanted flags group.now.note) }
 {

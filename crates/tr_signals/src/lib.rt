@@ -20,4 +20,4 @@ pub use masks::{check_mask, check_pause, mask, pause};
 pub use scripts::{change_own, check_script, script};
 pub use stops::{check_halt, check_trap, halt, show_stop, trap};
 pub use takers::{check_take_any, take_any};
-pub use takes::{check_take, take};
+pub use takes::{check_take, did, take};

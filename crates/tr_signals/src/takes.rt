@@ -60,7 +60,7 @@ pub fn check_take(table: &Table, tid: u32) -> Result<Checked, Refusal>
 }
 
 /// What a thread does with an instance that it takes: a tracee reports it, and others act by the action.
-pub(crate) fn did(table: &Table, thread: &Thread, instance: &Instance) -> Did
+pub fn did(table: &Table, thread: &Thread, instance: &Instance) -> Did
     ensures { result ≡ did_at_take table.now.table thread.now instance.now }
 {
     if thread.is_traced() {
