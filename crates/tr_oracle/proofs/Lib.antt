@@ -3,3 +3,4 @@ pub mod Earliest
 pub mod Complete
 pub mod Sound
 pub mod First
+pub mod Expecting

@@ -1,9 +1,11 @@
-//! The model as an oracle: where what another system answered first leaves it.
+//! The model as an oracle: where what another system answered first leaves it, and which replies it lets a call have.
 #![tactic(auto)]
 
+mod expected;
 mod offers;
 mod verdicts;
 
+pub use expected::{Expectation, answer_as};
 pub use offers::{first_offer_is_preferred, offered, offers_are_complete, offers_are_let};
 pub use verdicts::{Told, Unheard, Verdict, compare};
 
