@@ -1,8 +1,9 @@
 -- This product's own answer may be given, and no other where the model leaves no choice.
-use Rattle.std.proofs.Common.{◌≡◌, ◌+◌, ◌∙◌, ◌≤◌, ◌<◌, ℕ, zero, suc, List, [], ◌∷◌, IsTrue, Bool, true, false, Option, Some, None, Result, Ok, Err, add-one, ap, arith, drop, drop-cons, get_or, inl, inr, leb-false, leb-true, length, nat_le, refl, slice_index_or, subst, sym, true≢false}
+use Rattle.std.proofs.Common.{◌≡◌, ◌+◌, ◌-◌, ◌^◌, ◌&&◌, ◌∙◌, ◌≤◌, ◌<◌, ℕ, zero, suc, List, [], ◌∷◌, IsTrue, Bool, true, false, Option, Some, None, Result, Ok, Err, add-one, ap, arith, drop, drop-cons, get_or, inl, inr, leb-false, leb-true, length, nat_le, refl, slice_index_or, subst, sym, true≢false}
 use Rattle.std.specs.Result.{IsOk, is_err, is_ok}
 use Rattle.std.proofs.lemmas.Bool.{le-leb, lt-leb}
 use Rattle.std.specs.Prelude.{◌⊎◌, if◌then◌else◌}
+use Rattle.tr_tracee.specs.declared.thread.Thread.{Thread}
 use Rattle.tr_model.specs.declared.checked.Checked.{Checked}
 use Rattle.tr_model.specs.declared.checked.Checked.TheVariants.{Quiet, Due}
 use Rattle.tr_model.specs.declared.events.Event.{Event}
@@ -15,16 +16,16 @@ use Rattle.tr_model.specs.Causes.{cause_of, quiet_of}
 use Rattle.tr_model.specs.Choices.{Choice, no_choice}
 use Rattle.tr_model.specs.Compare.{IsLet, Lets, entry_for}
 use Rattle.tr_model.specs.Journals.{IsSorted}
-use Rattle.tr_model.specs.Preferred.{check, preferred}
+use Rattle.tr_model.specs.Preferred.{check, clone_choice, least_new, new_id, or_from_2, preferred}
 use Rattle.tr_model.specs.Runs.{Call}
-use Rattle.tr_model.specs.Steps.{Step, after, number}
-use Rattle.tr_model.specs.Tables.{Table}
+use Rattle.tr_model.specs.Steps.{Admits, Step, after, is_new, number}
+use Rattle.tr_model.specs.Tables.{Table, thread_of}
 use Rattle.tr_table.specs.Starts.{table_of}
 use Rattle.tr_kernel.specs.Foreseen.{foreseen, foreseen_by}
 use Rattle.tr_kernel.specs.Heard.{HasAnswered, call_of}
 use Rattle.tr_kernel.specs.States.{IsDue, IsEntered, IsHistory, IsQuiet, State}
 use Rattle.tr_kernel.proofs.Checks.{dues, refusals}
-use Rattle.tr_oracle.specs.Expected.{HasGiven, IsAnswered, IsNamed, MayAnswer}
+use Rattle.tr_oracle.specs.Expected.{FitsEachClone, HasGiven, IsAnswered, IsNamed, MayAnswer}
 use Rattle.tr_oracle.specs.Offers.{has_open_choice, offered}
 use Rattle.tr_model.proofs.Ordered.{waiting_is_sorted}
 use Rattle.tr_kernel.proofs.Begun.{is_start}
@@ -164,6 +165,36 @@ fixed s a e x r U ok d p q h =
     foreseen_due s (call_of a e) d (lt-leb s.table.entries (length s.journal) (has_room s (call_of a e) ok d))
     ∙ ap (λ y. Ok y) (ap (λ z. (after s.table (entry_for (call_of a e) z)).reply) (p ∙ sym q) ∙ sym h)
 
+-- a new id is that of a thread
+new_is_small : (T : Table) (id : ℕ) → is_new T id ≡ true → id < 2 ^ 32
+new_is_small T id h = go (nat_le 2 id) (nat_le id 4194303) _ refl h
+  where
+    go : (a b c : Bool) → nat_le id 4194303 ≡ b → (a && (b && c)) ≡ true → id < 2 ^ 32
+    go true true c e k = let l = leb-true id 4194303 e in omega arith
+    go true false c e k = cc
+    go false b c e k = cc
+
+least_is_small : (T : Table) (tries first id : ℕ) → least_new T tries first ≡ Some id → id < 2 ^ 32
+least_is_small T zero first id h = cc
+least_is_small T (suc tries) first id h = go (is_new T first) refl (least_is_small T tries (first + 1) id) h
+  where
+    go : (b : Bool) → is_new T first ≡ b → (least_new T tries (first + 1) ≡ Some id → id < 2 ^ 32) → (if b then Some first else least_new T tries (first + 1)) ≡ Some id → id < 2 ^ 32
+    go true e later k = let same : first ≡ id = cc in subst (λ n. n < 2 ^ 32) same (new_is_small T first e)
+    go false e later k = later k
+
+found_is_small : (T : Table) (o : Option ℕ) → ((id : ℕ) → o ≡ Some id → id < 2 ^ 32) → or_from_2 T o < 2 ^ 32
+found_is_small T (Some id) h = h id refl
+found_is_small T None h = go (least_new T 4194302 2) refl
+  where
+    go : (o : Option ℕ) → least_new T 4194302 2 ≡ o → or_from_2 T None < 2 ^ 32
+    go None e = rw e (omega arith)
+    go (Some id) e = rw e (least_is_small T 4194302 2 id e)
+
+chosen_is_small : (T : Table) (t : Option Thread) → number (clone_choice T t).new_id < 2 ^ 32
+unfolding new_id
+chosen_is_small T None = omega arith
+chosen_is_small T (Some t) = found_is_small T (least_new T (4194303 - t.group) (t.group + 1)) (λ id e. least_is_small T (4194303 - t.group) (t.group + 1) id e)
+
 -- where a choice is open, each reply that is let is on the list
 opened : (s : State) (a : ℕ) (e : Event) (f : Result Reply Refusal → Bool) (r : Reply) (U : Table) (x : Choice) → IsSorted s.table.waiting → AllTried s (call_of a e) f (offered s.table a e)
     → IsTrue (has_open_choice e) → Step s.table (entry_for (call_of a e) x) r U → f (Ok r) ≡ true → ⊥
@@ -179,7 +210,7 @@ stepped s a (event.TakeAny g) f named r U x sorted ok mis t i n st h = opened s 
 stepped s a (event.Wait which) f named r U x sorted ok mis t i n st h = opened s a (event.Wait which) f r U x sorted t refl st h
 stepped s a (event.StarterWait which flags) f named r U x sorted ok mis t i n st h = opened s a (event.StarterWait which flags) f r U x sorted t refl st h
 stepped s a (event.CloneThread id) f named r U x sorted ok mis t i n st h =
-    cloned (i (number x.new_id) (subst (λ y. f (Ok y) ≡ true) st.reply h))
+    admitted (subst (λ y. f (Ok y) ≡ true) st.reply h) st.choice
   where
     c : Call
     c = call_of a (event.CloneThread id)
@@ -187,11 +218,14 @@ stepped s a (event.CloneThread id) f named r U x sorted ok mis t i n st h =
     due : IsDue s a (event.CloneThread id)
     due = record { no_cause = st.not_refused; not_quiet = st.not_quiet }
 
-    cloned : (named ≡ Some (number x.new_id)) ⊎ ((other : ℕ) → f (Ok (Cloned other)) ≡ true) → ⊥
+    cloned : (named ≡ Some (number x.new_id)) ⊎ FitsEachClone f → ⊥
     cloned (inl e) = fits_let s c f (Ok r) (subst (λ y. Tried s c f (Ok y)) (sym st.reply) (subst (NameTried s c f) e n)) (U, inr (x, st)) h
     cloned (inr all) =
         fits_own s c f (Ok (Cloned (number (preferred s.table a (event.CloneThread id)).new_id))) mis
-        (foreseen_due s c due (lt-leb s.table.entries (length s.journal) (has_room s c ok due))) (all (number (preferred s.table a (event.CloneThread id)).new_id))
+        (foreseen_due s c due (lt-leb s.table.entries (length s.journal) (has_room s c ok due))) (all (number (preferred s.table a (event.CloneThread id)).new_id) (chosen_is_small s.table (thread_of s.table id)))
+
+    admitted : f (Ok (Cloned (number x.new_id))) ≡ true → Admits s.table a (event.CloneThread id) x → ⊥
+    admitted k (new, chosen, is) = cloned (i (number x.new_id) (subst (λ (y : Choice). number y.new_id < 2 ^ 32) (sym chosen) (new_is_small s.table new is)) k)
 stepped s a e f named r U x sorted ok mis t i n st h =
     fits_own s (call_of a e) f (Ok r) mis (fixed s a e x r U ok (record { no_cause = st.not_refused; not_quiet = st.not_quiet }) refl st.choice st.reply) h
 

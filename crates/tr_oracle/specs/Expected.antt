@@ -1,5 +1,5 @@
 -- What a kernel answers where all that is known of another system's answer is whether it is as expected.
-use Rattle.std.specs.Prelude.{◌≡◌, ◌≤◌, ◌<◌, ◌⊎◌, ℕ, Bool, true, false, Option, Some, None, Result, Ok, Err, length}
+use Rattle.std.specs.Prelude.{◌≡◌, ◌≤◌, ◌<◌, ◌^◌, ◌⊎◌, ℕ, Bool, true, false, Option, Some, None, Result, Ok, Err, length}
 use Rattle.tr_model.specs.declared.replies.Refusal.{Refusal}
 use Rattle.tr_model.specs.declared.replies.Refusal.TheVariants.{JournalFull}
 use Rattle.tr_model.specs.declared.replies.Reply.{Reply}
@@ -34,9 +34,13 @@ Answers old new c fits (Ok (Some x)) = IsAnswered old new c fits x
 Answers old new c fits (Ok None) = ((x : Result Reply Refusal) → MayAnswer old c x → fits x ≡ false) × (new ≡ old)
 Answers old new c fits (Err e) = new ≡ old
 
+-- every id is as expected
+abbrev pub FitsEachClone : (Result Reply Refusal → Bool) → Type 0
+FitsEachClone fits = (id : ℕ) → id < 2 ^ 32 → fits (Ok (Cloned id)) ≡ true
+
 -- where the id of a clone may be as expected, it is this one, or every id is
 abbrev pub IsNamed : (Result Reply Refusal → Bool) → Option ℕ → Type 0
-IsNamed fits named = (id : ℕ) → fits (Ok (Cloned id)) ≡ true → (named ≡ Some id) ⊎ ((other : ℕ) → fits (Ok (Cloned other)) ≡ true)
+IsNamed fits named = (id : ℕ) → id < 2 ^ 32 → fits (Ok (Cloned id)) ≡ true → (named ≡ Some id) ⊎ FitsEachClone fits
 
 -- an answer that was tried is as expected and given; or it isn't as expected, or not let, and nothing has changed
 abbrev pub IsTried : {E : Type 0} → State → State → Call → (Result Reply Refusal → Bool) → Result Reply Refusal → Result Bool E → Type 0

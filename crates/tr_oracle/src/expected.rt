@@ -1,9 +1,9 @@
-ghost use Rattle.std.specs.Prelude.{◌≡◌, false, OnErr, OnOk};
+ghost use Rattle.std.specs.Prelude.{◌≡◌, false, true, IfOk, OnErr, OnOk};
 ghost use Rattle.std.specs.Result.{IsOk};
 ghost use Rattle.tr_kernel.specs.Foreseen.{foreseen};
 ghost use Rattle.tr_kernel.specs.Heard.{call_of};
 ghost use Rattle.tr_kernel.specs.States.{IsHistory};
-ghost use Rattle.tr_oracle.specs.Expected.{Answers, HasGiven, IsTried, MayAnswer};
+ghost use Rattle.tr_oracle.specs.Expected.{Answers, HasGiven, IsAnswered, IsTried, MayAnswer};
 
 use crate::offers::offered;
 use std::alloc::{AllocError, Global};
@@ -49,6 +49,21 @@ pub fn answer_as<X: Expectation>(
         Ok(_) => answer_otherwise(alloc, kernel, actor, event, expected),
         Err(_) => Ok(None),
     }
+}
+
+/// Answers a call of an actor with this product's own answer.
+pub fn answer(
+    kernel: &mut Kernel,
+    actor: u32,
+    event: &Event,
+) -> Result<Result<Reply, Refusal>, AllocError>
+    ensures ok { IfOk result
+        (λ x. IsAnswered kernel.old kernel.new (call_of actor event.now) (λ _. true) x) }
+    ensures err { OnErr result (kernel.new ≡ kernel.old) }
+{
+    let own = kernel.foresee(actor, event);
+    make(kernel, actor, event, &own)?;
+    Ok(own)
 }
 
 /// Makes this product's own answer.

@@ -5,7 +5,7 @@ mod expected;
 mod offers;
 mod verdicts;
 
-pub use expected::{Expectation, answer_as};
+pub use expected::{Expectation, answer, answer_as};
 pub use offers::{first_offer_is_preferred, offered, offers_are_complete, offers_are_let};
 pub use verdicts::{Told, Unheard, Verdict, compare};
 
