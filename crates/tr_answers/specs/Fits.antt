@@ -1,5 +1,5 @@
 -- Whether a printed answer fits the text that is expected.
-use Rattle.std.specs.Prelude.{ℕ, ◌<◌, ◌^◌, ◌==◌, List, [], ◌∷◌, ◌++◌, Bool, true, false, ◌&&◌, ◌||◌, IsTrue, codes, decimal}
+use Rattle.std.specs.Prelude.{ℕ, ◌==◌, List, [], ◌∷◌, Bool, true, false, ◌&&◌, ◌||◌, codes}
 use Rattle.std.specs.List.{list_any, slice_split}
 use Rattle.std.specs.Str.{bytes_eq}
 
@@ -28,11 +28,3 @@ fits expected text = fit (words expected) (words text)
 -- some word is `_`
 abbrev pub is_open : List ℕ → Bool
 is_open expected = list_any any_word (words expected)
-
--- the answer to a clone
-abbrev pub clone_text : ℕ → List ℕ
-clone_text id = codes "cloned " ++ decimal id
-
--- where the answer to a clone fits, some word is `_`
-abbrev pub FitsClonesOpenly : List ℕ → Type 0
-FitsClonesOpenly expected = (id : ℕ) → id < 2 ^ 32 → IsTrue (fits expected (clone_text id)) → IsTrue (is_open expected)

@@ -1,2 +1,5 @@
+pub mod Comparisons
+pub mod Compares
 pub mod Fits
+pub mod Private
 pub mod Records

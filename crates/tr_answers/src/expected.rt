@@ -1,10 +1,13 @@
 ghost use Rattle.std.specs.Prelude.{◌≡◌, ◌≢◌, ◌==◌, ◌<◌, ◌^◌, ℕ, decimal, length, IfOk, MatchOption};
 ghost use Rattle.std.specs.List.{list_all, zip};
-ghost use Rattle.tr_answers.specs.Fits.{FitsClonesOpenly, clone_text, fits, fits_word, is_open, words};
+ghost use Rattle.tr_answers.specs.Fits.{fits, fits_word, is_open, words};
 
+use crate::shown::ShownAnswer;
 use itoa::Buffer;
 use std::alloc::{AllocError, Global};
 use std::marker::Model;
+use tr_model::{Refusal, Reply};
+use tr_oracle::Expectation;
 
 /// What another system answered to a call, as `serial` prints it after the event's name. A word of it may be `_`, which
 /// fits any word.
@@ -38,7 +41,7 @@ impl Expected {
     }
 
     /// Tells whether a printed answer has as many words, each of which fits.
-    pub fn fits(&self, text: &str) -> bool
+    pub fn fits_text(&self, text: &str) -> bool
         ensures { result ≡ fits self.now text.now }
     {
         let expected = self.as_str();
@@ -51,14 +54,22 @@ impl Expected {
     {
         self.as_str().split(' ').any(|word| word == "_")
     }
+}
 
-    /// Gives the id of a new thread, where the text is `cloned` and that id as `serial` prints it. Another text fits no
-    /// clone's answer, unless some word of it is `_`.
-    pub fn new_id(&self) -> Option<u32>
-        ensures { MatchOption result (FitsClonesOpenly self.now)
-            (λ id. self.now ≡ clone_text id) }
-    {
-        let digits = self.as_str().strip_prefix("cloned ")?;
+impl Expectation for Expected {
+    ghost use Rattle.std.specs.Prelude.{Some};
+    ghost use Rattle.tr_answers.specs.Comparisons.{is_expected};
+
+    ghost fits = { λ e. is_expected (Some e) };
+
+    fn fits(&self, answer: &Result<Reply, Refusal>) -> Result<bool, AllocError> {
+        let alloc = *self.text.allocator();
+        let text = format!(in alloc; "{}", ShownAnswer(answer))?;
+        Ok(self.fits_text(&text))
+    }
+
+    fn named_id(&self) -> Option<u32> {
+        let (_, digits) = self.as_str().split_once(' ')?;
         number_of(digits)
     }
 }
@@ -83,7 +94,7 @@ fn fit_in_turn(expected: &str, text: &str) -> bool
 /// Gives the number that these are the digits of, as it is printed: with no sign, and with no zero before others.
 fn number_of(digits: &str) -> Option<u32>
     ensures { MatchOption result ((n : ℕ) → n < 2 ^ 32 → digits.now ≢ decimal n)
-        (λ n. digits.now ≡ decimal n) }
+        (λ n. (n < 2 ^ 32) × (digits.now ≡ decimal n)) }
 {
     let number: u32 = digits.parse().ok()?;
     if Buffer::new().format(number) == digits {

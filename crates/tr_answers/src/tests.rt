@@ -1,4 +1,6 @@
 mod answers;
+mod comparisons;
+mod devices;
 mod refusals;
 mod texts;
 

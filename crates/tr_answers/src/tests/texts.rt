@@ -1,4 +1,6 @@
 use super::*;
+use tr_model::{Fate, Refusal, Reply};
+use tr_oracle::Expectation;
 
 /// What is expected, what is printed, and whether it fits.
 const FITS: &str = r#"sent 1 pending|sent 1 pending|yes
@@ -32,7 +34,7 @@ fn fits_word_by_word(rt: HostRuntime) -> Result<(), Fail> {
     for line in FITS.lines() {
         let (expected, rest) = line.split_once('|').ok_or("a case")?;
         let (text, want) = rest.split_once('|').ok_or("a case")?;
-        let fits = Expected::new(rt.alloc(), expected)?.fits(text);
+        let fits = Expected::new(rt.alloc(), expected)?.fits_text(text);
         assert_eq!(rt; fits, want == "yes", "{line}");
     }
     Ok(())
@@ -53,15 +55,17 @@ fn a_word_is_open(rt: HostRuntime) -> Result<(), Fail> {
     Ok(())
 }
 
-fn new_id(rt: &impl AllocGlobal, text: &str) -> Result<Option<u32>, Fail> {
-    Ok(Expected::new(rt.alloc(), text)?.new_id())
+fn named_id(rt: &impl AllocGlobal, text: &str) -> Result<Option<u32>, Fail> {
+    Ok(Expected::new(rt.alloc(), text)?.named_id())
 }
 
 #[test]
 fn names_a_new_thread(rt: HostRuntime) -> Result<(), Fail> {
-    assert_eq!(rt; new_id(&rt, "cloned 11")?, Some(11));
-    assert_eq!(rt; new_id(&rt, "cloned 0")?, Some(0));
-    assert_eq!(rt; new_id(&rt, "cloned 4294967295")?, Some(4294967295));
+    for text in ["cloned 11", "_ 11", " 11", "Cloned 11"] {
+        assert_eq!(rt; named_id(&rt, text)?, Some(11), "{text}");
+    }
+    assert_eq!(rt; named_id(&rt, "cloned 0")?, Some(0));
+    assert_eq!(rt; named_id(&rt, "cloned 4294967295")?, Some(4294967295));
     Ok(())
 }
 
@@ -80,14 +84,43 @@ cloned  11
  cloned 11
 cloned 11 
 cloned 1a
-Cloned 11
+11
 nothing
-_ 11";
+_
+_ _";
 
 #[test]
 fn names_no_thread(rt: HostRuntime) -> Result<(), Fail> {
     for text in NO_IDS.lines() {
-        assert_eq!(rt; new_id(&rt, text)?, None, "{text}");
+        assert_eq!(rt; named_id(&rt, text)?, None, "{text}");
     }
     Ok(())
+}
+
+/// That an expected text fits an answer, or doesn't.
+fn is_fit<R: Abort + AllocGlobal>(
+    rt: &R,
+    text: &str,
+    answer: Result<Reply, Refusal>,
+    want: bool,
+) -> Result<(), Fail> {
+    let expected = Expected::new(rt.alloc(), text)?;
+    assert_eq!(rt; expected.fits(&answer)?, want, "{text}");
+    Ok(())
+}
+
+#[test]
+fn fits_answers(rt: HostRuntime) -> Result<(), Fail> {
+    let fate = Fate::Merged;
+    let sent = Ok(Reply::Sent { n: 12, fate });
+    is_fit(&rt, "sent 12 merged", sent, true)?;
+    is_fit(&rt, "sent _ merged", sent, true)?;
+    is_fit(&rt, "sent 12 pending", sent, false)?;
+    let cloned = Ok(Reply::Cloned { tid: 12 });
+    is_fit(&rt, "_ 12", cloned, true)?;
+    is_fit(&rt, "cloned _", cloned, true)?;
+    is_fit(&rt, "cloned 11", cloned, false)?;
+    is_fit(&rt, "ESRCH 3", Err(Refusal::Srch), true)?;
+    is_fit(&rt, "JournalFull", Err(Refusal::JournalFull), true)?;
+    is_fit(&rt, "Busy", Err(Refusal::NotDue), false)
 }

@@ -1,6 +1,6 @@
 use Rattle.std.proofs.Common.{◌∙◌, sym}
 use Rattle.tr_answers.proofs.Words.{all_fit, none_fits}
-use Rattle.tr_answers.proofs.expected.Expected.fits.Goals as goal
+use Rattle.tr_answers.proofs.expected.Expected.fits_text.Goals as goal
 
 pub returns-then-has_as_many_words : goal.returns-then-has_as_many_words
 returns-then-has_as_many_words c = all_fit c.args.self.now c.as_str-expected.result.now c.args.text.now c.fit_in_turn.result c.as_str-expected.ensures (sym c.has_as_many_words.ensures ∙ c.if-has_as_many_words.true) c.fit_in_turn.ensures

@@ -1,0 +1,76 @@
+use super::*;
+use std::io::{Error, ErrorKind, Read, Result, Write};
+use tr_scenario::{FromReader, ToWriter};
+
+/// Gives a text, seven bytes a read. Each second read is interrupted, and after some reads it breaks.
+#[derive(Drop)]
+struct Stream<'a> {
+    text: &'a [u8],
+    reads: usize,
+}
+
+impl Read for Stream<'_> {
+    fn read(&mut self, room: &mut [u8]) -> Result<usize> {
+        if self.reads == 0 {
+            return Err(Error::from(ErrorKind::BrokenPipe));
+        }
+        self.reads -= 1;
+        if self.reads % 2 == 1 {
+            return Err(Error::from(ErrorKind::Interrupted));
+        }
+        let count = room.len().min(7).min(self.text.len());
+        room[..count].copy_from_slice(&self.text[..count]);
+        self.text = &self.text[count..];
+        Ok(count)
+    }
+}
+
+/// Takes at most `most` bytes a write, and breaks after some writes.
+#[derive(Drop)]
+pub struct Tape {
+    pub bytes: Vec<u8>,
+    most: usize,
+    writes: usize,
+}
+
+impl Write for Tape {
+    fn write(&mut self, bytes: &[u8]) -> Result<usize> {
+        if self.writes == 0 {
+            return Err(Error::from(ErrorKind::BrokenPipe));
+        }
+        self.writes -= 1;
+        let count = bytes.len().min(self.most);
+        self.bytes.extend_from_slice(&bytes[..count])?;
+        Ok(count)
+    }
+
+    fn flush(&mut self) -> Result<()> {
+        Ok(())
+    }
+}
+
+pub fn blank_tape(rt: &impl AllocGlobal, most: usize, writes: usize) -> Tape {
+    Tape {
+        bytes: Vec::new(rt.alloc()),
+        most,
+        writes,
+    }
+}
+
+/// Compares a record that comes by so many reads.
+pub fn compare_to(
+    rt: &impl AllocGlobal,
+    text: &str,
+    reads: usize,
+    tape: &mut Tape,
+) -> core::result::Result<bool, ScenarioFault> {
+    let stream = Stream {
+        text: text.as_bytes(),
+        reads,
+    };
+    compare(
+        rt.alloc(),
+        &mut FromReader::new(stream),
+        &mut ToWriter::new(tape),
+    )
+}
