@@ -2,6 +2,7 @@
 complete -c tracebox -f
 complete -c tracebox -n __fish_use_subcommand -a serial -d 'Run the scenario on standard input, one call after another'
 complete -c tracebox -n __fish_use_subcommand -a threads -d 'Run it by workers, each on a thread of its own'
+complete -c tracebox -n __fish_use_subcommand -a compare -d 'Compare the record on standard input with what the model admits'
 complete -c tracebox -n __fish_use_subcommand -a decode -d 'Tell the status that a wait status word has'
 complete -c tracebox -n __fish_use_subcommand -l version -d 'Print the version'
 complete -c tracebox -l help -d 'Print help'

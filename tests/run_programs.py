@@ -4,8 +4,9 @@
 usage: run_programs.py PROGRAM
 
 Each folder of tests/programs is a case: `args` has an argument a line, `stdin`, `stdout` and `stderr` have bytes, and `status` a
-number; a file that isn't there is empty, or 0. Each examples/NAME.json is a case of `serial`, which has to write NAME.txt. The last
-line is 'N passed, M failed'.
+number; a file that isn't there is empty, or 0. Each examples/NAME.json is a case of `serial`, which has to write NAME.txt, and each
+examples/records/NAME.json one of `compare`, which ends with 0 where the last line of NAME.txt begins with `agrees`, else with 1. The
+last line is 'N passed, M failed'.
 """
 
 import pathlib
@@ -28,6 +29,10 @@ def cases():
     for scenario in sorted((TOP / "examples").glob("*.json")):
         text = scenario.with_suffix(".txt")
         yield f"examples/{scenario.name}", ["serial"], scenario.read_bytes(), text.read_bytes(), b"", 0
+    for record in sorted((TOP / "examples" / "records").glob("*.json")):
+        text = record.with_suffix(".txt").read_bytes()
+        agrees = text.splitlines()[-1].startswith(b"agrees")
+        yield f"examples/records/{record.name}", ["compare"], record.read_bytes(), text, b"", 0 if agrees else 1
 
 
 def fault(program, words, given, out, err, status):

@@ -9,7 +9,7 @@ use Rattle.clap.specs.Words.{IsAmong, Kinds, Row, Text, fault_of, first_of, subc
 use Rattle.clap.specs.declared.error.kind.ErrorKind.{ErrorKind}
 use Rattle.clap.specs.declared.error.kind.ErrorKind.TheVariants as kind
 use Rattle.tracebox.specs.declared.asking.Ask.{Ask}
-use Rattle.tracebox.specs.declared.asking.Ask.TheVariants.{Serial, Threads, Decode}
+use Rattle.tracebox.specs.declared.asking.Ask.TheVariants.{Serial, Threads, Compare, Decode}
 use Rattle.tracebox.specs.declared.asking.AskFault.{AskFault}
 use Rattle.tracebox.specs.declared.asking.AskFault.TheVariants.{Help, Usage, NoMemory}
 use Rattle.tracebox.specs.declared.asking.Declined.{Declined}
@@ -52,7 +52,8 @@ abbrev pub named : Text → List Row → Result Ask AskFault
 named name rows =
     if bytes_eq name (codes "serial") then Ok Serial
     else (if bytes_eq name (codes "threads") then turns_asked (first_of (codes "turns") rows)
-    else (if bytes_eq name (codes "decode") then word_asked (first_of (codes "WORD") rows) else Err Usage))
+    else (if bytes_eq name (codes "compare") then Ok Compare
+    else (if bytes_eq name (codes "decode") then word_asked (first_of (codes "WORD") rows) else Err Usage)))
 
 -- the turns of a run by threads are 1 to 100,000,000
 abbrev pub HasTurns : Ask → Type 0

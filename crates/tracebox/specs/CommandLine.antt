@@ -20,6 +20,10 @@ turns_rule = record (new_rule (codes "turns")) { long = Some (codes "turns"); ac
 abbrev pub threads_app : App
 threads_app = with_rule (new_app (codes "threads")) turns_rule
 
+-- `compare` has no argument
+abbrev pub compare_app : App
+compare_app = new_app (codes "compare")
+
 -- WORD has to be there
 abbrev pub word_rule : Rule
 word_rule = record (new_rule (codes "WORD")) { action = Some Set; required = true }
@@ -32,6 +36,10 @@ decode_app = with_rule (new_app (codes "decode")) word_rule
 abbrev pub runs_app : App
 runs_app = with_subcommand (with_subcommand bare serial_app.top) threads_app.top
 
+-- and with the word that compares a record
+abbrev pub readers_app : App
+readers_app = with_subcommand runs_app compare_app.top
+
 -- and with the word that tells a status
 abbrev pub tracebox : App
-tracebox = with_subcommand runs_app decode_app.top
+tracebox = with_subcommand readers_app decode_app.top

@@ -1,5 +1,5 @@
 -- What the program does of what it is asked for.
-use Rattle.std.specs.Prelude.{◌≡◌, ℕ, List, Option, Some, None, Result, Ok, Err, IfErr, ⊤}
+use Rattle.std.specs.Prelude.{◌≡◌, ℕ, Bool, true, false, List, Option, Some, None, Result, Ok, Err, IfErr, ⊤}
 use Rattle.clap.specs.Words.{Text}
 use Rattle.tr_wait.specs.declared.status.Status.{Status}
 use Rattle.tr_wait.specs.declared.words.Word.{Word}
@@ -11,20 +11,43 @@ use Rattle.tr_scenario.specs.declared.faults.ScenarioFault.TheVariants as scenar
 use Rattle.tr_scenario.specs.Serial.{Devices, Runs}
 use Rattle.tr_scenario.specs.Sources.{Shown}
 use Rattle.tr_scenario.specs.Threaded.{RunsThreaded}
+use Rattle.tr_answers.specs.Compares.{Compares}
 use Rattle.tracebox.specs.declared.asking.Ask.{Ask}
-use Rattle.tracebox.specs.declared.asking.Ask.TheVariants.{Serial, Threads, Decode}
+use Rattle.tracebox.specs.declared.asking.Ask.TheVariants.{Serial, Threads, Compare, Decode}
 use Rattle.tracebox.specs.declared.asking.AskFault.{AskFault}
 use Rattle.tracebox.specs.declared.asking.AskFault.TheVariants as asking
 use Rattle.tracebox.specs.declared.faults.Fault.{Fault}
 use Rattle.tracebox.specs.declared.faults.Fault.TheVariants.{Usage, NotAWord, Scenario}
+use Rattle.tracebox.specs.declared.performing.Ending.{Ending}
+use Rattle.tracebox.specs.declared.performing.Ending.TheVariants.{Done, Differs}
 use Rattle.tracebox.specs.Asks.{Answers, Blames}
 use Rattle.tracebox.specs.Faults.{fault_line, fault_status}
 use Rattle.tracebox.specs.Meanings.{meaning_line}
 
--- a fault of its run is the program's
-abbrev pub run_result : Result ⊤ ScenarioFault → Result ⊤ Fault
-run_result (Ok x) = Ok x
+-- 1 where an answer differs
+abbrev pub ending_status : Ending → ℕ
+ending_status Done = 0
+ending_status Differs = 1
+
+-- how a comparison ends
+abbrev pub ending_of : Bool → Ending
+ending_of true = Done
+ending_of false = Differs
+
+-- a fault of a run is the program's
+abbrev pub run_result : Result ⊤ ScenarioFault → Result Ending Fault
+run_result (Ok x) = Ok Done
 run_result (Err e) = Err (Scenario e)
+
+-- so is one of a comparison
+abbrev pub comparison_result : Result Bool ScenarioFault → Result Ending Fault
+comparison_result (Ok agrees) = Ok (ending_of agrees)
+comparison_result (Err e) = Err (Scenario e)
+
+-- once a text is written, all is done
+abbrev pub text_result : Result ⊤ Fault → Result Ending Fault
+text_result (Ok x) = Ok Done
+text_result (Err e) = Err e
 
 module _ {K : Type 0} (taken : K → List ℕ) (failures : K → ℕ) where
   -- a text is written, or a front of it and the sink fails
@@ -55,8 +78,8 @@ module _ {K : Type 0} (taken : K → List ℕ) (failures : K → ℕ) where
   Tells old new e = (told : Result ⊤ Failed) × Writes taken failures old new (fault_line e) told
 
   -- the exit status, and how a fault is told
-  abbrev pub Ends : K → K → Result ⊤ Fault → ℕ → Type 0
-  Ends old new (Ok x) status = (status ≡ 0) × (new ≡ old)
+  abbrev pub Ends : K → K → Result Ending Fault → ℕ → Type 0
+  Ends old new (Ok ending) status = (status ≡ ending_status ending) × (new ≡ old)
   Ends old new (Err e) status = (status ≡ fault_status e) × Tells old new e
 
 module _ {R W : Type 0} (shown : R → Shown) (taken : W → List ℕ) (failures : W → ℕ) where
@@ -64,18 +87,19 @@ module _ {R W : Type 0} (shown : R → Shown) (taken : W → List ℕ) (failures
   abbrev pub devices : R → W → Devices
   devices r w = record { reader = shown r; taken = taken w; failures = failures w }
 
-  -- what is done of what was asked for: the reader is read by a run alone
-  abbrev pub Does : Result Ask AskFault → R → R → W → W → Result ⊤ Fault → Type 0
+  -- what is done of what was asked for: the reader is read by a run or a comparison alone
+  abbrev pub Does : Result Ask AskFault → R → R → W → W → Result Ending Fault → Type 0
   Does (Ok Serial) r_old r_new w_old w_new result = (run : Result ⊤ ScenarioFault) × Runs (devices r_old w_old) (devices r_new w_new) run × (result ≡ run_result run)
   Does (Ok (Threads turns)) r_old r_new w_old w_new result = (run : Result ⊤ ScenarioFault) × RunsThreaded (devices r_old w_old) (devices r_new w_new) turns run × (result ≡ run_result run)
-  Does (Ok (Decode w)) r_old r_new w_old w_new result = (r_new ≡ r_old) × Decodes taken failures w_old w_new w result
-  Does (Err fault) r_old r_new w_old w_new result = (r_new ≡ r_old) × Declines taken failures fault w_old w_new result
+  Does (Ok Compare) r_old r_new w_old w_new result = (comparison : Result Bool ScenarioFault) × Compares (devices r_old w_old) (devices r_new w_new) comparison × (result ≡ comparison_result comparison)
+  Does (Ok (Decode w)) r_old r_new w_old w_new result = (r_new ≡ r_old) × ((text : Result ⊤ Fault) × Decodes taken failures w_old w_new w text × (result ≡ text_result text))
+  Does (Err fault) r_old r_new w_old w_new result = (r_new ≡ r_old) × ((text : Result ⊤ Fault) × Declines taken failures fault w_old w_new text × (result ≡ text_result text))
 
   -- what the words ask for is done
-  abbrev pub Attempts : List Text → R → R → W → W → Result ⊤ Fault → Type 0
+  abbrev pub Attempts : List Text → R → R → W → W → Result Ending Fault → Type 0
   Attempts words r_old r_new w_old w_new result = (answer : Result Ask AskFault) × Answers words answer × Blames words answer × Does answer r_old r_new w_old w_new result
 
 module _ {R W E : Type 0} (shown : R → Shown) (taken : W → List ℕ) (failures : W → ℕ) (told : E → List ℕ) (untold : E → ℕ) where
   -- what was asked for is done, and its end told
   abbrev pub Performs : List Text → R → R → W → W → E → E → ℕ → Type 0
-  Performs words r_old r_new w_old w_new e_old e_new status = (result : Result ⊤ Fault) × Attempts shown taken failures words r_old r_new w_old w_new result × Ends told untold e_old e_new result status
+  Performs words r_old r_new w_old w_new e_old e_new status = (result : Result Ending Fault) × Attempts shown taken failures words r_old r_new w_old w_new result × Ends told untold e_old e_new result status

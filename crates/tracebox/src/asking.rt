@@ -18,6 +18,8 @@ pub enum Ask {
     Serial,
     /// Run it by workers on threads, each with so many turns, 1 to 100,000,000.
     Threads(u64),
+    /// Compare the record on standard input with what the model admits.
+    Compare,
     /// Tell the status of this word.
     Decode(Word),
 }
@@ -42,9 +44,9 @@ pub struct Declined {
 }
 
 /// What the words of a command line ask for, of which the first is the program's name: `serial`; `threads`, with the
-/// turns of each worker, 100,000 where none are given; or `decode` and a word of 1 to 8 hexadecimal digits of either case
-/// without a prefix. `Usage` for a word of another form. Where `clap` doesn't take the words, `Help` if they want help or
-/// the version, with that text, else `Usage`. `NoMemory` where memory is refused, also to that text.
+/// turns of each worker, 100,000 where none are given; `compare`; or `decode` and a word of 1 to 8 hexadecimal digits of
+/// either case without a prefix. `Usage` for a word of another form. Where `clap` doesn't take the words, `Help` if they
+/// want help or the version, with that text, else `Usage`. `NoMemory` where memory is refused, also to that text.
 pub fn asked<'a, S: AsStr>(alloc: Global, words: &'a [S]) -> Result<Ask, Declined>
     ensures answers { Answers (map S.text words.entry.now) (answer_of result) }
     ensures blames { Blames (map S.text words.entry.now) (answer_of result) }
@@ -122,6 +124,8 @@ fn named_ask(name: &str, matches: &ArgMatches<'_>) -> Result<Ask, AskFault>
         Ok(Ask::Serial)
     } else if name == "threads" {
         threads_ask(value(matches, "turns"))
+    } else if name == "compare" {
+        Ok(Ask::Compare)
     } else if name == "decode" {
         decode_ask(value(matches, "WORD"))
     } else {

@@ -1,7 +1,7 @@
 ghost use Rattle.std.specs.Prelude.{◌≡◌, IfOk, false};
 ghost use Rattle.clap.specs.Words.{app_of};
 ghost use Rattle.clap.specs.declared.builder.command.Command.TheViews.{out-Command as fields_of};
-ghost use Rattle.tracebox.specs.CommandLine.{decode_app, runs_app, serial_app, threads_app, tracebox};
+ghost use Rattle.tracebox.specs.CommandLine.{compare_app, decode_app, runs_app, serial_app, threads_app, tracebox};
 
 use clap::builder::ValueParser;
 use clap::{Arg, ArgAction, Command};
@@ -13,10 +13,11 @@ const VERSION: &str = "0.1.0";
 pub(crate) const MOST_TURNS: u64 = 100_000_000;
 
 const PROGRAM_END: &str =
-    "`serial` and `threads` read a scenario on standard input, `decode` nothing but its WORD. All print\n\
-on standard output. A fault goes to standard error, as `tracebox: ` and its name. Exit status: 0\n\
-done, also help; 1 the input is refused, no status has the word, or a run doesn't settle; 2 the\n\
-command line isn't one of these; 3 memory, the reader or the writer failed.\n\n\
+    "`serial` and `threads` read a scenario on standard input, `compare` a record, `decode` nothing but\n\
+its WORD. All print on standard output. A fault goes to standard error, as `tracebox: ` and its\n\
+name. Exit status: 0 done, also help; 1 the input is refused, no status has the word, a run doesn't\n\
+settle, or an answer differs; 2 the command line isn't one of these; 3 memory, the reader or the\n\
+writer failed.\n\n\
 Example:\n  \
 tracebox serial < scenario.json";
 
@@ -56,6 +57,21 @@ tracebox threads --turns 1000 < scenario.json\n\
 prints for each worker a line as `worker 900 entries 100 accepted 100 refused 0 end`. The line ends in\n\
 `turns` where the worker's turns were used up before its calls.";
 
+const COMPARE: &str = "Compares the record on standard input with what the model admits.\n\n\
+Reads a record: a scenario of version 1 in which a step may have `answer`, a text that another\n\
+system answered to each of its calls, as `serial` prints it after the event's name. A word of it may\n\
+be `_`, which fits any word. Prints for each answer with a `_` the one that was assumed; then how\n\
+many answers agree, or the first that no step of the model admits, and what is admitted there. The\n\
+exit status is 0 where all agree, and 1 where one differs. Nothing is printed of an input that is\n\
+refused.";
+
+const COMPARE_END: &str = "Example:\n  \
+echo '{\"version\":1,\"limit\":4,\"entries\":9,\"groups\":[{\"tgid\":10,\"name\":\"demo\",\"actions\":[],\n    \
+\"threads\":[{\"tid\":10,\"blocked\":[]}]}],\"steps\":[{\"actor\":900,\"do\":\"kill\",\"tgid\":10,\"sig\":15,\n    \
+\"answer\":\"sent 1 merged\"}]}' | tracebox compare\n\
+prints\n  \
+step 1: `900 kill`: answered `sent 1 merged`; admitted: `sent 1 pending`";
+
 const DECODE: &str = "Tells the status that a wait status word has, as waitpid(2) gives it.\n\n\
 Prints one line: exited CODE, killed SIGNAL, stopped SIGNAL, event clone, event exec, event exit,\n\
 event stop SIGNAL or continued.";
@@ -69,10 +85,11 @@ pub(crate) fn command<'a>(alloc: Global) -> Result<Command<'a>, AllocError>
     ensures { IfOk result (λ c. app_of c ≡ tracebox) }
 {
     let decode = decode_command(alloc)?;
-    runs_command(alloc)?.subcommand(decode)
+    let command = runs_command(alloc)?.subcommand(compare_command(alloc))?;
+    command.subcommand(decode)
 }
 
-/// The command line without its word `decode`.
+/// The command line with the words that run a scenario alone.
 fn runs_command<'a>(alloc: Global) -> Result<Command<'a>, AllocError>
     ensures { IfOk result (λ c. app_of c ≡ runs_app) }
 {
@@ -112,6 +129,16 @@ fn threads_command<'a>(alloc: Global) -> Result<Command<'a>, AllocError>
         .long_about(THREADS)
         .after_help(THREADS_END)
         .arg(turns)
+}
+
+fn compare_command<'a>(alloc: Global) -> Command<'a>
+    ensures app { app_of result ≡ compare_app }
+    ensures local { (fields_of result).has_globals ≡ false }
+{
+    Command::new(alloc, "compare")
+        .about("Compares the record on standard input with what the model admits")
+        .long_about(COMPARE)
+        .after_help(COMPARE_END)
 }
 
 fn decode_command<'a>(alloc: Global) -> Result<Command<'a>, AllocError>

@@ -1,4 +1,5 @@
-//! The program `tracebox`: it runs scenarios, call by call or by workers on threads, and tells what wait status words mean.
+//! The program `tracebox`: it runs scenarios, call by call or by workers on threads, compares records of another system's
+//! answers with the model, and tells what wait status words mean.
 #![tactic(auto)]
 
 mod asking;

@@ -3,7 +3,7 @@ ghost use Rattle.std.specs.IoError.{error_kind};
 ghost use Rattle.tr_scenario.specs.declared.faults.ScenarioFault.TheVariants as scenario;
 ghost use Rattle.tracebox.specs.declared.faults.Fault.TheVariants.{Scenario, Usage};
 ghost use Rattle.tracebox.specs.Faults.{fault_status};
-ghost use Rattle.tracebox.specs.Performing.{Attempts, Declines, Decodes, Ends, Performs, Says, Tells};
+ghost use Rattle.tracebox.specs.Performing.{Attempts, Declines, Decodes, Ends, Performs, Says, Tells, ending_of, ending_status};
 
 use crate::asking::{Ask, AskFault, Declined, asked};
 use crate::faults::{Fault, words_fault};
@@ -13,14 +13,37 @@ use std::convert::AsStr;
 use std::io::{self, ErrorKind};
 use std::sync::Wait;
 use std::thread::Threads;
+use tr_answers::compare;
 use tr_scenario::{ScenarioFault, Source, serial, threaded};
 use tr_status::{Sink, put_all};
 use tr_wait::{Word, decode};
 
+/// How what was asked for ends where it has no fault.
+#[derive(Clone, Copy, Debug, PartialEq, Eq)]
+pub enum Ending {
+    /// It is done; the answers of a record agree.
+    Done,
+    /// It is done, and an answer of the record differs.
+    Differs,
+}
+
+impl Ending {
+    /// The exit status: 1 where an answer differs.
+    pub fn status(self) -> u8
+        ensures { result ≡ ending_status self }
+    {
+        match self {
+            Ending::Done => 0,
+            Ending::Differs => 1,
+        }
+    }
+}
+
 /// Does what the words of a command line ask for, of which the first is the program's name, and gives the exit status:
-/// 0, also after help, which goes to the writer; 1 for a refused input, a word that no status has or a run that doesn't
-/// settle, 2 for a command line that the program doesn't take, 3 where memory is refused or the reader or the writer
-/// fails. A fault goes to `faults` by its name. Where that can't be written the status stays.
+/// 0, also after help, which goes to the writer; 1 for a refused input, a word that no status has, a run that doesn't
+/// settle or a record of which an answer differs, 2 for a command line that the program doesn't take, 3 where memory is
+/// refused or the reader or the writer fails. A fault goes to `faults` by its name. Where that can't be written the
+/// status stays.
 pub fn perform<T: AllocGlobal + Threads + Wait + Sync, S: AsStr, R: Source, W: Sink, E: Sink>(
     rt: &T,
     words: &[S],
@@ -36,7 +59,7 @@ pub fn perform<T: AllocGlobal + Threads + Wait + Sync, S: AsStr, R: Source, W: S
         (map S.text words.now) reader.old reader.new writer.old writer.new faults.old faults.new result }
 {
     match attempt(rt, rt.alloc(), words, reader, writer) {
-        Ok(()) => 0,
+        Ok(ending) => ending.status(),
         Err(fault) => report(fault, faults),
     }
 }
@@ -85,7 +108,7 @@ fn attempt<T: Threads + Wait + Sync, S: AsStr, R: Source, W: Sink>(
     words: &[S],
     reader: &mut R,
     writer: &mut W,
-) -> Result<(), Fault>
+) -> Result<Ending, Fault>
     requires failures { (R.shown reader.old).failures < 2 ^ 64 - 1 }
     requires interruptions { (R.shown reader.old).interruptions + 1048576 < 2 ^ 64 }
     requires room { W.failures writer.old < 2 ^ 64 - 1 }
@@ -93,10 +116,23 @@ fn attempt<T: Threads + Wait + Sync, S: AsStr, R: Source, W: Sink>(
         (map S.text words.now) reader.old reader.new writer.old writer.new result }
 {
     match asked(alloc, words) {
-        Ok(Ask::Serial) => Ok(serial(alloc, reader, writer)?),
-        Ok(Ask::Threads(turns)) => Ok(threaded(rt, alloc, reader, writer, turns)?),
-        Ok(Ask::Decode(word)) => write_decoded(word, writer),
-        Err(declined) => write_declined(&declined, writer),
+        Ok(Ask::Serial) => serial(alloc, reader, writer)?,
+        Ok(Ask::Threads(turns)) => threaded(rt, alloc, reader, writer, turns)?,
+        Ok(Ask::Compare) => return Ok(ending_of(compare(alloc, reader, writer)?)),
+        Ok(Ask::Decode(word)) => write_decoded(word, writer)?,
+        Err(declined) => write_declined(&declined, writer)?,
+    }
+    Ok(Ending::Done)
+}
+
+/// How a comparison ends.
+fn ending_of(agrees: bool) -> Ending
+    ensures { result ≡ ending_of agrees }
+{
+    if agrees {
+        Ending::Done
+    } else {
+        Ending::Differs
     }
 }
 

@@ -1,6 +1,7 @@
 mod command_lines;
 mod devices;
 mod large_groups;
+mod records;
 mod runs;
 mod stored;
 mod threads;

@@ -63,6 +63,8 @@ fn a_command_line_is_not_taken(rt: HostRuntime) {
     expect_usage(&rt, &["tracebox", "Serial"]);
     expect_usage(&rt, &["tracebox", "serial", "10"]);
     expect_usage(&rt, &["tracebox", "serial", "--version"]);
+    expect_usage(&rt, &["tracebox", "compare", "record.json"]);
+    expect_usage(&rt, &["tracebox", "Compare"]);
     expect_usage(&rt, &["tracebox", "decode"]);
     expect_usage(&rt, &["tracebox", "decode", "0", "0"]);
     expect_usage(&rt, &["tracebox", "--turns", "9", "serial"]);
@@ -85,6 +87,7 @@ fn help_is_written(rt: HostRuntime) {
         let parts = [
             "Usage: tracebox <COMMAND>\n",
             "serial",
+            "compare",
             "decode",
             "Exit status",
             "Example",
@@ -102,6 +105,16 @@ fn help_is_written(rt: HostRuntime) {
     ];
     expect_help(&rt, &["tracebox", "serial", "--help"], &serial);
     expect_help(&rt, &["tracebox", "help", "serial"], &serial);
+    let compare = [
+        "Usage: tracebox compare\n",
+        "standard input",
+        "`answer`",
+        "`_`",
+        "agree",
+        "Example",
+    ];
+    expect_help(&rt, &["tracebox", "compare", "--help"], &compare);
+    expect_help(&rt, &["tracebox", "help", "compare"], &compare);
     let decode = [
         "Usage: tracebox decode <WORD>\n",
         "event stop SIGNAL",
