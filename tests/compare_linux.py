@@ -1,0 +1,76 @@
+#!/usr/bin/env python3
+"""Compares what a running Linux answered with the model, and what is found with the differences that are known.
+
+usage: compare_linux.py PROGRAM
+
+Each examples/linux/NAME.json is a record of answers. PROGRAM compares it; where an answer differs, that answer is left out and the
+record is compared again, until all that are left agree. Each line that told of a difference has to stand behind its record's name in
+examples/linux/differences.txt, and each line there has to be told. The last line is 'N passed, M failed', by records.
+"""
+
+import collections
+import json
+import pathlib
+import subprocess
+import sys
+
+FOLDER = pathlib.Path(__file__).resolve().parent.parent / "examples" / "linux"
+SECONDS = 60
+
+
+def last_line(program, record):
+    """The last line that a comparison prints, and its exit status."""
+    given = json.dumps(record).encode()
+    ran = subprocess.run([program, "compare"], input=given, capture_output=True, timeout=SECONDS)
+    if ran.stderr or ran.returncode not in (0, 1):
+        raise ValueError(f"status {ran.returncode}, {ran.stderr.decode()!r}")
+    return ran.stdout.decode().splitlines()[-1], ran.returncode
+
+
+def differences(program, record):
+    """The lines that tell of a difference, each found with the answers before it left out that differ too."""
+    found = []
+    while True:
+        line, status = last_line(program, record)
+        if status == 0:
+            return found
+        found.append(line)
+        step = int(line.split()[1].rstrip(":"))
+        del record["steps"][step - 1]["answer"]
+
+
+def known_differences():
+    """The lines of differences.txt, by record."""
+    known = collections.defaultdict(list)
+    for line in (FOLDER / "differences.txt").read_text().splitlines():
+        name, told = line.split(": ", 1)
+        known[name].append(told)
+    return known
+
+
+def main(program):
+    known = known_differences()
+    records = sorted(FOLDER.glob("*.json"))
+    failed = 0
+    for path in records:
+        want = known.pop(path.stem, [])
+        try:
+            found = differences(program, json.loads(path.read_text()))
+        except (ValueError, subprocess.TimeoutExpired) as fault:
+            found = [str(fault)]
+        if found != want:
+            failed += 1
+            told = [f"new: {line}" for line in found if line not in want]
+            told += [f"not found: {line}" for line in want if line not in found]
+            print(f"{path.stem}: " + "; ".join(told or ["in another order"]))
+    for name in known:
+        failed += 1
+        print(f"{name}: there is no such record")
+    print(f"{len(records) + len(known) - failed} passed, {failed} failed")
+    return 1 if failed or not records else 0
+
+
+if __name__ == "__main__":
+    if len(sys.argv) != 2:
+        sys.exit(__doc__)
+    sys.exit(main(str(pathlib.Path(sys.argv[1]).resolve())))
