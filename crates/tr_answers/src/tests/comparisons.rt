@@ -47,38 +47,83 @@ agrees: 4 answers
     )
 }
 
+/// A call after some steps, of which so many have an answer.
+#[derive(Clone, Copy)]
+struct Call<'a> {
+    before: &'a str,
+    known: u32,
+    /// The step, without its end.
+    step: &'a str,
+    /// How lines name it.
+    name: &'a str,
+}
+
+/// That each answer, one a line, is given to the call as the line says after a bar; where it is open, that is told.
+fn are_given<R: Abort + AllocGlobal>(rt: &R, call: &Call<'_>, cases: &str) -> Result<(), Fail> {
+    for line in cases.lines() {
+        let (answer, made) = line.split_once('|').ok_or("a case")?;
+        let steps = format!(in rt.alloc();
+            "{}{},\"answer\":\"{answer}\"}}",
+            call.before, call.step
+        )?;
+        let mut want = String::new(rt.alloc());
+        if !made.is_empty() {
+            write!(want, "{}: assumed `{made}`\n", call.name)?;
+        }
+        write!(want, "agrees: {} answers\n", call.known + 1)?;
+        are_compared(rt, &steps, &want)?;
+    }
+    Ok(())
+}
+
+/// That none of the answers, one a line, fits what is admitted for the call.
+fn are_refuted<R: Abort + AllocGlobal>(
+    rt: &R,
+    call: &Call<'_>,
+    answers: &str,
+    admitted: &str,
+) -> Result<(), Fail> {
+    for answer in answers.lines() {
+        let steps = format!(in rt.alloc();
+            "{}{},\"answer\":\"{answer}\"}}",
+            call.before, call.step
+        )?;
+        let want = format!(in rt.alloc();
+            "{}: answered `{answer}`; admitted: {admitted}\n",
+            call.name
+        )?;
+        are_compared(rt, &steps, &want)?;
+    }
+    Ok(())
+}
+
 /// USR2 and then USR1 are sent to a group, and its thread unblocks both.
 const TAKES: &str =
     r#"{"actor":900,"do":"kill","tgid":10,"sig":12,"answer":"sent 1 pending"},{"actor":900,"do":"kill","tgid":10,"sig":10,"answer":"sent 2 pending"},{"actor":10,"do":"mask","tid":10,"set":[]},"#;
 
+const TAKEN: &str = "\
+took 10 1 12 0 caught|
+took 10 2 10 0 caught|
+took _ _ 12 _ _|took 10 1 12 0 caught
+took _ _ _ _ _|took 10 2 10 0 caught";
+
+const NOT_TAKEN: &str = "\
+took 10 1 12 0 dying
+took 10 1 10 0 caught
+took _ _ _ _
+nothing";
+
 #[test]
 fn takes_that_are_open(rt: HostRuntime) -> Result<(), Fail> {
-    for (answer, want) in [
-        ("took 10 1 12 0 caught", "agrees: 3 answers\n"),
-        ("took 10 2 10 0 caught", "agrees: 3 answers\n"),
-        (
-            "took _ _ 12 _ _",
-            "step 4: `10 take`: assumed `took 10 1 12 0 caught`\nagrees: 3 answers\n",
-        ),
-        (
-            "took _ _ _ _ _",
-            "step 4: `10 take`: assumed `took 10 2 10 0 caught`\nagrees: 3 answers\n",
-        ),
-        (
-            "took 10 1 12 0 dying",
-            "step 4: `10 take`: answered `took 10 1 12 0 dying`; admitted: `took 10 2 10 0 caught`, `took 10 1 12 0 caught`\n",
-        ),
-        (
-            "nothing",
-            "step 4: `10 take`: answered `nothing`; admitted: `took 10 2 10 0 caught`, `took 10 1 12 0 caught`\n",
-        ),
-    ] {
-        let steps = format!(in rt.alloc();
-            "{TAKES}{{\"actor\":10,\"do\":\"take\",\"tid\":10,\"answer\":\"{answer}\"}}"
-        )?;
-        are_compared(&rt, &steps, want)?;
-    }
-    Ok(())
+    let call = Call {
+        before: TAKES,
+        known: 2,
+        step: r#"{"actor":10,"do":"take","tid":10"#,
+        name: "step 4: `10 take`",
+    };
+    are_given(&rt, &call, TAKEN)?;
+    let admitted = "`took 10 2 10 0 caught`, `took 10 1 12 0 caught`";
+    are_refuted(&rt, &call, NOT_TAKEN, admitted)
 }
 
 /// After the open take the run goes on with the instance that was told.
@@ -101,75 +146,55 @@ step 5: `10 take`: answered `took 10 1 12 0 caught`; admitted: `took 10 2 10 0 c
 const STOPS: &str =
     r#"{"actor":900,"do":"attach","tid":10},{"actor":900,"do":"attach","tid":20},{"actor":10,"do":"take","tid":10,"answer":"took 10 1 19 0 reported"},{"actor":20,"do":"take","tid":20,"answer":"took 20 2 19 0 reported"},"#;
 
+const WAITED: &str = "\
+waited 10 137f 1|
+waited 20 137f 2|
+waited _ 137f _|waited 10 137f 1
+waited 20 _ _|waited 20 137f 2";
+
+const NOT_WAITED: &str = "\
+waited 20 _ 1
+waited 20 137F 2
+nothing";
+
 #[test]
 fn waits_that_are_open(rt: HostRuntime) -> Result<(), Fail> {
-    for (answer, want) in [
-        ("waited 20 137f 2", "agrees: 3 answers\n"),
-        (
-            "waited _ 137f _",
-            "step 5: `900 wait`: assumed `waited 10 137f 1`\nagrees: 3 answers\n",
-        ),
-        (
-            "waited 20 _ _",
-            "step 5: `900 wait`: assumed `waited 20 137f 2`\nagrees: 3 answers\n",
-        ),
-        (
-            "waited 20 _ 1",
-            "step 5: `900 wait`: answered `waited 20 _ 1`; admitted: `waited 10 137f 1`, `waited 20 137f 2`\n",
-        ),
-    ] {
-        let steps = format!(in rt.alloc();
-            "{STOPS}{{\"actor\":900,\"do\":\"wait\",\"tid\":0,\"answer\":\"{answer}\"}}"
-        )?;
-        are_compared(&rt, &steps, want)?;
-    }
-    Ok(())
+    let call = Call {
+        before: STOPS,
+        known: 2,
+        step: r#"{"actor":900,"do":"wait","tid":0"#,
+        name: "step 5: `900 wait`",
+    };
+    are_given(&rt, &call, WAITED)?;
+    let admitted = "`waited 10 137f 1`, `waited 20 137f 2`";
+    are_refuted(&rt, &call, NOT_WAITED, admitted)
 }
+
+const CLONED: &str = "\
+cloned 11|
+cloned 4000000|
+_ 12|cloned 12
+cloned _|cloned 11
+_ _|cloned 11";
+
+const NOT_CLONED: &str = "\
+cloned 20
+cloned 4194304
+cloned 012
+_
+_ 12 _
+_ 20";
 
 #[test]
 fn clones(rt: HostRuntime) -> Result<(), Fail> {
-    for (answer, want) in [
-        ("cloned 11", "agrees: 1 answers\n"),
-        ("cloned 4000000", "agrees: 1 answers\n"),
-        (
-            "_ 12",
-            "step 1: `10 clone`: assumed `cloned 12`\nagrees: 1 answers\n",
-        ),
-        (
-            "cloned _",
-            "step 1: `10 clone`: assumed `cloned 11`\nagrees: 1 answers\n",
-        ),
-        (
-            "_ _",
-            "step 1: `10 clone`: assumed `cloned 11`\nagrees: 1 answers\n",
-        ),
-        (
-            "cloned 20",
-            "step 1: `10 clone`: answered `cloned 20`; admitted: `cloned 11`\n",
-        ),
-        (
-            "cloned 4194304",
-            "step 1: `10 clone`: answered `cloned 4194304`; admitted: `cloned 11`\n",
-        ),
-        (
-            "cloned 012",
-            "step 1: `10 clone`: answered `cloned 012`; admitted: `cloned 11`\n",
-        ),
-        (
-            "_",
-            "step 1: `10 clone`: answered `_`; admitted: `cloned 11`\n",
-        ),
-        (
-            "_ 12 _",
-            "step 1: `10 clone`: answered `_ 12 _`; admitted: `cloned 11`\n",
-        ),
-    ] {
-        let steps = format!(in rt.alloc();
-            "{{\"actor\":10,\"do\":\"clone\",\"tid\":10,\"answer\":\"{answer}\"}}"
-        )?;
-        are_compared(&rt, &steps, want)?;
-    }
-    Ok(())
+    let call = Call {
+        before: "",
+        known: 0,
+        step: r#"{"actor":10,"do":"clone","tid":10"#,
+        name: "step 1: `10 clone`",
+    };
+    are_given(&rt, &call, CLONED)?;
+    are_refuted(&rt, &call, NOT_CLONED, "`cloned 11`")
 }
 
 #[test]

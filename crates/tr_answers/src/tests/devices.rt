@@ -1,5 +1,5 @@
 use super::*;
-use std::io::{Error, ErrorKind, Read, Result, Write};
+use std::io::{self, Error, ErrorKind, Read, Write};
 use tr_scenario::{FromReader, ToWriter};
 
 /// Gives a text, seven bytes a read. Each second read is interrupted, and after some reads it breaks.
@@ -10,7 +10,7 @@ struct Stream<'a> {
 }
 
 impl Read for Stream<'_> {
-    fn read(&mut self, room: &mut [u8]) -> Result<usize> {
+    fn read(&mut self, room: &mut [u8]) -> io::Result<usize> {
         if self.reads == 0 {
             return Err(Error::from(ErrorKind::BrokenPipe));
         }
@@ -34,7 +34,7 @@ pub struct Tape {
 }
 
 impl Write for Tape {
-    fn write(&mut self, bytes: &[u8]) -> Result<usize> {
+    fn write(&mut self, bytes: &[u8]) -> io::Result<usize> {
         if self.writes == 0 {
             return Err(Error::from(ErrorKind::BrokenPipe));
         }
@@ -44,7 +44,7 @@ impl Write for Tape {
         Ok(count)
     }
 
-    fn flush(&mut self) -> Result<()> {
+    fn flush(&mut self) -> io::Result<()> {
         Ok(())
     }
 }
@@ -63,7 +63,7 @@ pub fn compare_to(
     text: &str,
     reads: usize,
     tape: &mut Tape,
-) -> core::result::Result<bool, ScenarioFault> {
+) -> Result<bool, ScenarioFault> {
     let stream = Stream {
         text: text.as_bytes(),
         reads,

@@ -101,11 +101,11 @@ fn names_no_thread(rt: HostRuntime) -> Result<(), Fail> {
 fn is_fit<R: Abort + AllocGlobal>(
     rt: &R,
     text: &str,
-    answer: Result<Reply, Refusal>,
+    answer: &Result<Reply, Refusal>,
     want: bool,
 ) -> Result<(), Fail> {
     let expected = Expected::new(rt.alloc(), text)?;
-    assert_eq!(rt; expected.fits(&answer)?, want, "{text}");
+    assert_eq!(rt; expected.fits(answer)?, want, "{text}");
     Ok(())
 }
 
@@ -113,14 +113,14 @@ fn is_fit<R: Abort + AllocGlobal>(
 fn fits_answers(rt: HostRuntime) -> Result<(), Fail> {
     let fate = Fate::Merged;
     let sent = Ok(Reply::Sent { n: 12, fate });
-    is_fit(&rt, "sent 12 merged", sent, true)?;
-    is_fit(&rt, "sent _ merged", sent, true)?;
-    is_fit(&rt, "sent 12 pending", sent, false)?;
+    is_fit(&rt, "sent 12 merged", &sent, true)?;
+    is_fit(&rt, "sent _ merged", &sent, true)?;
+    is_fit(&rt, "sent 12 pending", &sent, false)?;
     let cloned = Ok(Reply::Cloned { tid: 12 });
-    is_fit(&rt, "_ 12", cloned, true)?;
-    is_fit(&rt, "cloned _", cloned, true)?;
-    is_fit(&rt, "cloned 11", cloned, false)?;
-    is_fit(&rt, "ESRCH 3", Err(Refusal::Srch), true)?;
-    is_fit(&rt, "JournalFull", Err(Refusal::JournalFull), true)?;
-    is_fit(&rt, "Busy", Err(Refusal::NotDue), false)
+    is_fit(&rt, "_ 12", &cloned, true)?;
+    is_fit(&rt, "cloned _", &cloned, true)?;
+    is_fit(&rt, "cloned 11", &cloned, false)?;
+    is_fit(&rt, "ESRCH 3", &Err(Refusal::Srch), true)?;
+    is_fit(&rt, "JournalFull", &Err(Refusal::JournalFull), true)?;
+    is_fit(&rt, "Busy", &Err(Refusal::NotDue), false)
 }
