@@ -16,14 +16,6 @@ use Rattle.tr_table.proofs.Rostering.{ids_in, occurs_in}
 
 -- counts
 
-pub any_counted : (p : Thread → Bool) (ms : List Thread) → list_any p ms ≡ not (length (filter p ms) == 0)
-any_counted p [] = refl
-any_counted p (m ∷ ms) = go (p m) (any_counted p ms)
-  where
-    go : (b : Bool) → list_any p ms ≡ not (length (filter p ms) == 0) → (b || list_any p ms) ≡ not (length (cond b (m ∷ filter p ms) (filter p ms)) == 0)
-    go true h = sym (ap not (ne_eqb (suc (length (filter p ms))) 0 (λ e. omega (arith, e))))
-    go false h = h
-
 pub all_counted : (p : Thread → Bool) (ms : List Thread) → list_all p ms ≡ (length (filter p ms) == length (ids_of ms))
 all_counted p [] = refl
 all_counted p (m ∷ ms) = go (p m) (all_counted p ms)

@@ -24,6 +24,7 @@ pub mod Traced
 pub mod Tracings
 pub mod Reports
 pub mod ByIds
+pub mod Counting
 pub mod FreeIds
 pub mod Leaders
 pub mod Onlys

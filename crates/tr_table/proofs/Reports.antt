@@ -11,7 +11,8 @@ use Rattle.tr_model.specs.Journals.{occurs}
 use Rattle.tr_model.specs.Tables.{ids_of, thread_in}
 use Rattle.tr_table.specs.Tracing.{first_of, if_passes, is_number, is_reporting, passes, reports, tracer, waiter}
 use Rattle.tr_table.specs.Waits.{is_report}
-use Rattle.tr_table.proofs.ByIds.{any_counted, found}
+use Rattle.tr_table.proofs.ByIds.{found}
+use Rattle.tr_table.proofs.Counting.{any_counted}
 
 -- a filter before a search
 

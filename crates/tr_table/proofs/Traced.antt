@@ -7,31 +7,12 @@ use Rattle.std.proofs.lemmas.List.{length-set}
 use Rattle.tr_tracee.specs.declared.thread.Thread.{Thread}
 use Rattle.tr_model.specs.Journals.{occurs}
 use Rattle.tr_model.specs.Tables.{ids_of}
-use Rattle.tr_model.proofs.Measures.{total, total-append}
 use Rattle.tr_table.specs.Held.{bool_to_nat}
 use Rattle.tr_table.specs.Tracing.{IsMultiset, MultisetView, is_before, is_number, relisted}
 use Rattle.tr_model.proofs.Costs.{filter-le-length}
 use Rattle.tr_table.proofs.Places.{by_place, first}
-use Rattle.tr_table.proofs.Rostering.{occurs_in, total_gone, total_written}
-
--- how many pass a test
-
-all_counted : (p : Thread → Bool) (ts : List Thread) → length (filter p ts) ≡ total (λ t. bool_to_nat (p t)) ts
-all_counted p [] = refl
-all_counted p (t ∷ ts) = go (p t) (all_counted p ts)
-  where
-    go : (b : Bool) → length (filter p ts) ≡ total (λ u. bool_to_nat (p u)) ts → length (cond b (t ∷ filter p ts) (filter p ts)) ≡ bool_to_nat b + total (λ u. bool_to_nat (p u)) ts
-    go true h = omega (arith, h)
-    go false h = omega (arith, h)
-
-count_written : (p : Thread → Bool) (ts : List Thread) (i : ℕ) (d y : Thread) → i < length ts → length (filter p (set ts i y)) + bool_to_nat (p (get_or ts i d)) ≡ length (filter p ts) + bool_to_nat (p y)
-count_written p ts i d y h = omega (arith, all_counted p ts, all_counted p (set ts i y), total_written (λ t. bool_to_nat (p t)) ts i d y h)
-
-count_gone : (p : Thread → Bool) (ts : List Thread) (i : ℕ) (d : Thread) → i < length ts → length (filter p (remove ts i)) + bool_to_nat (p (get_or ts i d)) ≡ length (filter p ts)
-count_gone p ts i d h = omega (arith, all_counted p ts, all_counted p (remove ts i), total_gone (λ t. bool_to_nat (p t)) ts i d h)
-
-count_added : (p : Thread → Bool) (ts : List Thread) (t : Thread) → length (filter p (ts ++ t ∷ [])) ≡ length (filter p ts) + bool_to_nat (p t)
-count_added p ts t = omega (arith, all_counted p ts, all_counted p (ts ++ t ∷ []), total-append (λ u. bool_to_nat (p u)) ts (t ∷ []))
+use Rattle.tr_table.proofs.Counting.{counted_added, counted_gone, counted_written}
+use Rattle.tr_table.proofs.Rostering.{occurs_in}
 
 -- multisets
 
@@ -39,32 +20,32 @@ module _ (key : Thread → Option ℕ) (ts : List Thread) (v w : MultisetView) (
   pub multiset_written : (i : ℕ) (d y : Thread) → i < length ts → ((m : ℕ) → occurs m w.numbers + bool_to_nat (is_number m (key (get_or ts i d))) ≡ occurs m v.numbers + bool_to_nat (is_number m (key y)))
       → length w.numbers + bool_to_nat (is_some (key (get_or ts i d))) ≡ length v.numbers + bool_to_nat (is_some (key y)) → IsMultiset key (set ts i y) w
   multiset_written i d y l c s = record {
-    counted = λ n. omega (arith, h.counted n, c n, count_written (λ t. is_number n (key t)) ts i d y l);
-    sized = omega (arith, h.sized, s, count_written (λ t. is_some (key t)) ts i d y l);
+    counted = λ n. omega (arith, h.counted n, c n, counted_written (λ t. is_number n (key t)) ts i d y l);
+    sized = omega (arith, h.sized, s, counted_written (λ t. is_some (key t)) ts i d y l);
   }
 
   pub multiset_gone : (i : ℕ) (d : Thread) → i < length ts → ((m : ℕ) → occurs m w.numbers + bool_to_nat (is_number m (key (get_or ts i d))) ≡ occurs m v.numbers + bool_to_nat false)
       → length w.numbers + bool_to_nat (is_some (key (get_or ts i d))) ≡ length v.numbers + bool_to_nat false → IsMultiset key (remove ts i) w
   multiset_gone i d l c s = record {
-    counted = λ n. omega (arith, h.counted n, c n, count_gone (λ t. is_number n (key t)) ts i d l);
-    sized = omega (arith, h.sized, s, count_gone (λ t. is_some (key t)) ts i d l);
+    counted = λ n. omega (arith, h.counted n, c n, counted_gone (λ t. is_number n (key t)) ts i d l);
+    sized = omega (arith, h.sized, s, counted_gone (λ t. is_some (key t)) ts i d l);
   }
 
   pub multiset_added : (t : Thread) → ((m : ℕ) → occurs m w.numbers + bool_to_nat false ≡ occurs m v.numbers + bool_to_nat (is_number m (key t)))
       → length w.numbers + bool_to_nat false ≡ length v.numbers + bool_to_nat (is_some (key t)) → IsMultiset key (ts ++ t ∷ []) w
   multiset_added t c s = record {
-    counted = λ n. omega (arith, h.counted n, c n, count_added (λ u. is_number n (key u)) ts t);
-    sized = omega (arith, h.sized, s, count_added (λ u. is_some (key u)) ts t);
+    counted = λ n. omega (arith, h.counted n, c n, counted_added (λ u. is_number n (key u)) ts t);
+    sized = omega (arith, h.sized, s, counted_added (λ u. is_some (key u)) ts t);
   }
 
 module _ (key : Thread → Option ℕ) (ts : List Thread) (v : MultisetView) (h : IsMultiset key ts v) (i : ℕ) (d : Thread) (l : i < length ts) where
   -- a thread of the list is counted
   pub counts_it : (m : ℕ) → bool_to_nat (is_number m (key (get_or ts i d))) ≤ occurs m v.numbers
-  counts_it m = omega (arith, h.counted m, count_gone (λ t. is_number m (key t)) ts i d l)
+  counts_it m = omega (arith, h.counted m, counted_gone (λ t. is_number m (key t)) ts i d l)
 
   -- there is a place for what it becomes
   pub place_for : (y : Thread) → length ts ≤ v.places → length v.numbers + bool_to_nat (is_some (key y)) ≤ v.places + bool_to_nat (is_some (key (get_or ts i d)))
-  place_for y room = omega (arith, room, h.sized, count_written (λ t. is_some (key t)) ts i d y l, filter-le-length (λ t. is_some (key t)) (set ts i y), length-set ts i y)
+  place_for y room = omega (arith, room, h.sized, counted_written (λ t. is_some (key t)) ts i d y l, filter-le-length (λ t. is_some (key t)) (set ts i y), length-set ts i y)
 
   pub place_left : length ts ≤ v.places → length v.numbers + bool_to_nat false ≤ v.places + bool_to_nat (is_some (key (get_or ts i d)))
   place_left room = omega (arith, room, h.sized, filter-le-length (λ t. is_some (key t)) ts)

@@ -1,4 +1,4 @@
--- What is kept for the waits of tracers, as one: a thread of the list, what it becomes, and one that goes or comes.
+-- What is kept for waits, as one: a thread of the list, what it becomes, and one that goes or comes.
 use Rattle.std.proofs.Common.{◌≡◌, ◌+◌, ◌<◌, ◌≤◌, ◌++◌, ◌∷◌, [], ◌∙◌, ℕ, List, false, Option, None, filter, if◌then◌else◌, is_some, length, length-append, set, get_or, remove, take, arith, ap, subst, sym}
 use Rattle.std.specs.List.Sorted.{IsPartitionedBy}
 use Rattle.std.proofs.lemmas.List.{length-set}
@@ -8,7 +8,9 @@ use Rattle.tr_model.specs.Journals.{occurs}
 use Rattle.tr_model.specs.Tables.{ids_of}
 use Rattle.tr_table.specs.Held.{bool_to_nat}
 use Rattle.tr_table.specs.Tracing.{HasPlace, HasPlaces, IsTracing, MultisetView, TracingView, is_before, is_number, is_reporting, relisted, tracer, waiter}
+use Rattle.tr_table.specs.Waits.{is_untraced_death}
 use Rattle.tr_model.proofs.Costs.{filter-le-length}
+use Rattle.tr_table.proofs.Counting.{counted_added, counted_gone, counted_written, one_counted}
 use Rattle.tr_table.proofs.ThreadLists.{ids_length}
 use Rattle.tr_table.proofs.Traced.{counts_it, list_added, list_gone, list_written, parts_count, parts_parted, place_after, place_for, place_left, ranked, multiset_added, multiset_gone, multiset_written, within_kept}
 
@@ -70,8 +72,9 @@ module _ (ts : List Thread) (ids : List ℕ) (v : TracingView) (h : IsTracing ts
   may_unwait before b = rw b (subst (λ (t : Thread). MayRecount v.waiters (waiter t) None) (sym at) (record { counted = counts_it waiter ts v.waiters h.waiters i x l; room = place_left waiter ts v.waiters h.waiters i x l room.waiters }))
 
   pub traced_written : (y : Thread) (w : TracingView) (was is : Option ℕ) → y.id ≡ (get_or ts i x).id → was ≡ waiter x → is ≡ waiter y → Recounts v.tracers w.tracers (tracer x) (tracer y) → Recounts v.waiters w.waiters was is
-      → w.reporting ≡ relisted (is_some was) (is_some is) (length (filter (is_before ids i) v.reporting)) y.id v.reporting → IsTracing (set ts i y) w
-  traced_written y w was is same b a p q r =
+      → w.reporting ≡ relisted (is_some was) (is_some is) (length (filter (is_before ids i) v.reporting)) y.id v.reporting
+      → w.untraced_deaths + bool_to_nat (is_untraced_death x) ≡ v.untraced_deaths + bool_to_nat (is_untraced_death y) → IsTracing (set ts i y) w
+  traced_written y w was is same b a p q r n =
       let p' : Recounts v.tracers w.tracers (tracer (get_or ts i x)) (tracer y) = subst (λ (t : Thread). Recounts v.tracers w.tracers (tracer t) (tracer y)) at p in
       let b' : was ≡ waiter (get_or ts i x) = b ∙ ap waiter at in
       let q' : Recounts v.waiters w.waiters (waiter (get_or ts i x)) (waiter y) = subst (λ (o : Option ℕ). Recounts v.waiters w.waiters o (waiter y)) b' (subst (λ (o : Option ℕ). Recounts v.waiters w.waiters was o) a q) in
@@ -80,11 +83,12 @@ module _ (ts : List Thread) (ids : List ℕ) (v : TracingView) (h : IsTracing ts
         tracers = multiset_written tracer ts v.tracers w.tracers h.tracers i x y l p'.counted p'.sized;
         waiters = multiset_written waiter ts v.waiters w.waiters h.waiters i x y l q'.counted q'.sized;
         reporting = list ∙ list_written is_reporting ts i x y l same;
+        untraced_deaths = omega (arith, n, h.untraced_deaths, counted_written is_untraced_death ts i x y l, ap (λ (t : Thread). bool_to_nat (is_untraced_death t)) at);
       }
 
   pub traced_gone : (id : ℕ) (w : TracingView) (was : Option ℕ) → was ≡ waiter x → Recounts v.tracers w.tracers (tracer x) None → Recounts v.waiters w.waiters was None
-      → w.reporting ≡ relisted (is_some was) false (length (filter (is_before ids i) v.reporting)) id v.reporting → IsTracing (remove ts i) w
-  traced_gone id w was b p q r =
+      → w.reporting ≡ relisted (is_some was) false (length (filter (is_before ids i) v.reporting)) id v.reporting → w.untraced_deaths + bool_to_nat (is_untraced_death x) ≡ v.untraced_deaths → IsTracing (remove ts i) w
+  traced_gone id w was b p q r n =
       let p' : Recounts v.tracers w.tracers (tracer (get_or ts i x)) None = subst (λ (t : Thread). Recounts v.tracers w.tracers (tracer t) None) at p in
       let b' : was ≡ waiter (get_or ts i x) = b ∙ ap waiter at in
       let q' : Recounts v.waiters w.waiters (waiter (get_or ts i x)) None = subst (λ (o : Option ℕ). Recounts v.waiters w.waiters o None) b' q in
@@ -93,14 +97,23 @@ module _ (ts : List Thread) (ids : List ℕ) (v : TracingView) (h : IsTracing ts
         tracers = multiset_gone tracer ts v.tracers w.tracers h.tracers i x l p'.counted p'.sized;
         waiters = multiset_gone waiter ts v.waiters w.waiters h.waiters i x l q'.counted q'.sized;
         reporting = list ∙ list_gone is_reporting ts i x id l;
+        untraced_deaths = omega (arith, n, h.untraced_deaths, counted_gone is_untraced_death ts i x l, ap (λ (t : Thread). bool_to_nat (is_untraced_death t)) at);
       }
 
+  -- its death may be counted, and so may another
+  pub counts_death : bool_to_nat (is_untraced_death x) ≤ v.untraced_deaths
+  counts_death = omega (arith, h.untraced_deaths, one_counted is_untraced_death ts i x l, ap (λ (t : Thread). bool_to_nat (is_untraced_death t)) at)
+
+  pub death_places : v.untraced_deaths ≤ v.places
+  death_places = omega (arith, h.untraced_deaths, filter-le-length is_untraced_death ts, room.reporting)
+
 pub traced_added : (ts : List Thread) (v w : TracingView) (t : Thread) → IsTracing ts v → Recounts v.tracers w.tracers None (tracer t) → Recounts v.waiters w.waiters None (waiter t)
-    → w.reporting ≡ (if is_some (waiter t) then v.reporting ++ t.id ∷ [] else v.reporting) → IsTracing (ts ++ t ∷ []) w
-traced_added ts v w t h p q r = record {
+    → w.reporting ≡ (if is_some (waiter t) then v.reporting ++ t.id ∷ [] else v.reporting) → w.untraced_deaths ≡ v.untraced_deaths + bool_to_nat (is_untraced_death t) → IsTracing (ts ++ t ∷ []) w
+traced_added ts v w t h p q r n = record {
   tracers = multiset_added tracer ts v.tracers w.tracers h.tracers t p.counted p.sized;
   waiters = multiset_added waiter ts v.waiters w.waiters h.waiters t q.counted q.sized;
   reporting = r ∙ (ap (λ (ns : List ℕ). if is_some (waiter t) then ns ++ t.id ∷ [] else ns) h.reporting ∙ sym (list_added is_reporting ts t));
+  untraced_deaths = omega (arith, n, h.untraced_deaths, counted_added is_untraced_death ts t);
 }
 
 pub has_place : (ts : List Thread) (v : TracingView) (n : ℕ) → IsTracing ts v → HasPlaces n v → length ts + 1 ≤ n → HasPlace v
@@ -108,6 +121,7 @@ has_place ts v n h room l = record {
   tracers = place_after tracer ts v.tracers h.tracers (omega (arith, room.tracers, l));
   waiters = place_after waiter ts v.waiters h.waiters (omega (arith, room.waiters, l));
   reporting = omega (arith, room.reporting, l, ap (λ (ns : List ℕ). length ns) h.reporting, ids_length (filter is_reporting ts), filter-le-length is_reporting ts);
+  untraced_deaths = omega (arith, room.reporting, l, h.untraced_deaths, filter-le-length is_untraced_death ts);
 }
 
 pub fewer_places : (m n : ℕ) (v : TracingView) → m ≤ n → HasPlaces n v → HasPlaces m v

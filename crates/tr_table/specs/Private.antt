@@ -1,5 +1,5 @@
 -- What private contracts say.
-use Rattle.std.specs.Prelude.{◌≡◌, ℕ, ◌<◌, ◌≤◌, List, [], filter, length, map, remove, slice_get, slice_set, get_or, Option, Some, None}
+use Rattle.std.specs.Prelude.{◌≡◌, ℕ, ◌<◌, ◌≤◌, List, [], filter, is_some, length, map, remove, slice_get, slice_set, get_or, Option, Some, None}
 use Rattle.tr_pending.specs.declared.instance.Instance.{Instance}
 use Rattle.tr_tracee.specs.declared.thread.Thread.{Thread}
 use Rattle.tr_tracee.specs.Lives.{held}
@@ -39,10 +39,16 @@ tgids_of xs = map (λ x. x.tgid) xs
 abbrev pub stopping_in : List Group → ℕ
 stopping_in xs = length (filter (λ x. is_stopping x.group_stop) xs)
 
--- what is kept beside the groups: where the group of an id stands, and how many group-stops are under way; they are few
-pub record IsGroups (xs : List Group) (ids : List ℕ) (n : ℕ) : Type 0 where
+-- how many groups of the list have a note
+abbrev pub noted_in : List Group → ℕ
+noted_in xs = length (filter (λ x. is_some x.note) xs)
+
+-- what is kept beside the groups: where the group of an id stands, how many group-stops are under way, and how many
+-- groups have a note; they are few
+pub record IsGroups (xs : List Group) (ids : List ℕ) (n m : ℕ) : Type 0 where
   pub indexed : ids ≡ tgids_of xs
   pub counted : n ≡ stopping_in xs
+  pub noted : m ≡ noted_in xs
   pub few : length xs ≤ 1024
 
 -- what the thread holds, if it is there

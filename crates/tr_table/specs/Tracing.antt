@@ -1,11 +1,12 @@
--- What is kept beside the threads for the waits of tracers: how many each tracer has, and which of them have a report.
+-- What is kept beside the threads for waits: how many tracees each tracer has, and which of them have a report; and how
+-- many deaths are the starter's to be told.
 use Rattle.std.specs.Prelude.{◌≡◌, ℕ, ◌<◌, ◌≤◌, ◌==◌, ◌&&◌, Bool, true, false, List, [], ◌∷◌, Option, Some, None, if◌then◌else◌, filter, is_some, length, remove, take}
 use Rattle.std.specs.List.{insert, list_any}
 use Rattle.tr_tracee.specs.declared.thread.Thread.{Thread}
 use Rattle.tr_tracee.specs.Threads.{is_tracee_of, tracer_of}
 use Rattle.tr_model.specs.Journals.{occurs}
 use Rattle.tr_model.specs.Tables.{ids_of, thread_in}
-use Rattle.tr_table.specs.Waits.{is_report}
+use Rattle.tr_table.specs.Waits.{is_report, is_untraced_death}
 
 -- numbers, each as often as it counts, and how many there are places for
 pub record MultisetView : Type 0 where
@@ -34,18 +35,21 @@ waiter t = if is_some t.report then tracer_of t.trace else None
 abbrev pub is_reporting : Thread → Bool
 is_reporting t = is_some (waiter t)
 
--- the tracers of all tracees, those of all that have a report, and the ids of these
+-- the tracers of all tracees, those of all that have a report, and the ids of these, with so many places; and for the
+-- starter how many deaths are untraced
 pub record TracingView : Type 0 where
   pub tracers : MultisetView
   pub waiters : MultisetView
   pub reporting : List ℕ
   pub places : ℕ
+  pub untraced_deaths : ℕ
 
 -- that is what is kept of these threads; the ids stand in table order
 pub record IsTracing (ts : List Thread) (v : TracingView) : Type 0 where
   pub tracers : IsMultiset tracer ts v.tracers
   pub waiters : IsMultiset waiter ts v.waiters
   pub reporting : v.reporting ≡ ids_of (filter is_reporting ts)
+  pub untraced_deaths : v.untraced_deaths ≡ length (filter is_untraced_death ts)
 
 -- there are places for so many threads
 pub record HasPlaces (n : ℕ) (v : TracingView) : Type 0 where
@@ -73,11 +77,12 @@ relisted true false k id ns = remove ns k
 relisted false true k id ns = insert ns k id
 relisted _ _ k id ns = ns
 
--- there is a place for one thread more
+-- there is a place for one thread more, which may be one death more
 pub record HasPlace (v : TracingView) : Type 0 where
   pub tracers : length v.tracers.numbers < v.tracers.places
   pub waiters : length v.waiters.numbers < v.waiters.places
   pub reporting : length v.reporting < v.places
+  pub untraced_deaths : v.untraced_deaths < v.places
 
 -- the id is the one, or any
 abbrev pub is_asked : Option ℕ → ℕ → Bool

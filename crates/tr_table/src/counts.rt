@@ -1,10 +1,10 @@
-ghost use Rattle.std.specs.Prelude.{◌≡◌, ◌+◌, ◌≤◌};
+ghost use Rattle.std.specs.Prelude.{◌≡◌, ◌+◌, ◌<◌, ◌≤◌, ◌^◌};
 ghost use Rattle.tr_table.specs.Held.{bool_to_nat};
 
 /// Counts again where one of those that are counted was or wasn't such a one, and is or isn't now.
 pub(crate) fn recounted(count: usize, was: bool, is: bool) -> usize
     requires was { bool_to_nat was ≤ count }
-    requires few { count ≤ 1024 }
+    requires few { count < 2 ^ 63 }
     ensures { result + bool_to_nat was ≡ count + bool_to_nat is }
 {
     match (was, is) {

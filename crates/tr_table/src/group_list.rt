@@ -1,4 +1,4 @@
-ghost use Rattle.std.specs.Prelude.{◌≡◌, ℕ, ◌+◌, ◌≤◌, ◌==◌, ◌||◌, IfOk, filter, length, map, not, option_copied};
+ghost use Rattle.std.specs.Prelude.{◌≡◌, ℕ, ◌+◌, ◌≤◌, ◌==◌, ◌||◌, IfOk, filter, is_some, length, map, not, option_copied};
 ghost use Rattle.std.specs.List.{list_any};
 ghost use Rattle.tr_tracee.specs.Threads.{in_group};
 ghost use Rattle.tr_model.specs.Journals.{occurs};
@@ -9,11 +9,12 @@ ghost use Rattle.tr_table.specs.Held.{bool_to_nat};
 ghost use Rattle.tr_table.specs.Private.{IsGroupPlace, stopping_in, tgids_of};
 
 use crate::counts::recounted;
-use crate::groups::{GroupChange, count_stopping};
+use crate::groups::{GroupChange, count_noted, count_stopping};
 use crate::index::Index;
 use crate::threads::Threads;
 use std::alloc::{AllocError, Global};
 use std::marker::Model;
+use std::slice;
 use tr_model::Group;
 use tr_tracee::Report;
 use tr_wait::Status;
@@ -23,6 +24,7 @@ pub(crate) struct Groups {
     list: Vec<Group>,
     index: Index,
     stopping: usize,
+    noted: usize,
 }
 
 impl Drop for Groups {
@@ -31,6 +33,7 @@ impl Drop for Groups {
             list: _,
             index: _,
             stopping: _,
+            noted: _,
         } = self;
     }
 }
@@ -44,7 +47,7 @@ impl Model for Groups {
 
     ghost view = { λ g. g.list.items };
 
-    ghost invariant = { λ g. IsGroups g.list.items g.index g.stopping };
+    ghost invariant = { λ g. IsGroups g.list.items g.index g.stopping g.noted };
 }
 
 fn index_of(groups: &[Group], alloc: Global) -> Result<Index, AllocError>
@@ -66,10 +69,12 @@ impl Groups {
     {
         let index = index_of(&list, alloc)?;
         let stopping = count_stopping(&list);
+        let noted = count_noted(&list);
         Ok(Groups {
             list,
             index,
             stopping,
+            noted,
         })
     }
 
@@ -86,6 +91,13 @@ impl Groups {
         self.stopping
     }
 
+    /// Whether some group has a note for the starter.
+    pub(crate) fn has_notes(&self) -> bool
+        ensures { result ≡ list_any (λ x. is_some x.note) self.now }
+    {
+        self.noted != 0
+    }
+
     fn place(&self, tgid: u32) -> Option<usize>
         ensures place { IsGroupPlace tgid self.now result }
         ensures once { (n : ℕ) → occurs n (tgids_of self.now) ≤ 1 }
@@ -100,6 +112,16 @@ impl Groups {
         Some(&self.list[place])
     }
 
+    /// The group with the id alone, or none.
+    pub(crate) fn with_id(&self, tgid: u32) -> &[Group]
+        ensures { result.now ≡ filter (λ x. x.tgid == tgid) self.now }
+    {
+        match self.place(tgid) {
+            Some(place) => slice::from_ref(&self.list[place]),
+            None => &[],
+        }
+    }
+
     /// Changes the group with the id.
     pub(crate) fn change(&mut self, tgid: u32, change: &GroupChange)
         ensures { self.new ≡ map (only_group tgid (group_changed_by change.now)) self.old }
@@ -107,9 +129,12 @@ impl Groups {
         if let Some(place) = self.place(tgid) {
             let group = &mut self.list[place];
             let was = group.group_stop.is_stopping();
+            let had = group.note.is_some();
             change.make(group);
             let is = group.group_stop.is_stopping();
+            let has = group.note.is_some();
             self.stopping = recounted(self.stopping, was, is);
+            self.noted = recounted(self.noted, had, has);
         }
     }
 
@@ -118,10 +143,13 @@ impl Groups {
         ensures { self.new ≡ group_changed tgid (with_note number status.now) self.old }
     {
         if let Some(place) = self.place(tgid) {
-            self.list[place].note = Some(Report {
+            let group = &mut self.list[place];
+            let had = group.note.is_some();
+            group.note = Some(Report {
                 number,
                 status: *status,
             });
+            self.noted = recounted(self.noted, had, true);
         }
     }
 
@@ -130,10 +158,13 @@ impl Groups {
         ensures { self.new ≡ group_changed group.now.tgid (λ _. group.now) self.old }
     {
         if let Some(place) = self.place(group.tgid) {
-            let was = self.list[place].group_stop.is_stopping();
+            let former = &self.list[place];
+            let was = former.group_stop.is_stopping();
+            let had = former.note.is_some();
             let is = group.group_stop.is_stopping();
             self.list[place] = *group;
             self.stopping = recounted(self.stopping, was, is);
+            self.noted = recounted(self.noted, had, group.note.is_some());
         }
     }
 
@@ -149,6 +180,7 @@ impl Groups {
             let gone = self.list.remove(place);
             self.index.remove(place);
             self.stopping = recounted(self.stopping, gone.group_stop.is_stopping(), false);
+            self.noted = recounted(self.noted, gone.note.is_some(), false);
         }
     }
 }

@@ -1,4 +1,4 @@
-ghost use Rattle.std.specs.Prelude.{◌≡◌, ◌+◌, ◌-◌, ◌==◌, ◌||◌, filter, length, map, not, option_copied, position, slice_index_or};
+ghost use Rattle.std.specs.Prelude.{◌≡◌, ◌+◌, ◌-◌, ◌==◌, ◌||◌, filter, is_some, length, map, not, option_copied, position, slice_index_or};
 ghost use Rattle.std.specs.List.{list_any};
 ghost use Rattle.tr_tracee.specs.Threads.{in_group};
 ghost use Rattle.tr_group.specs.Actions.{reset};
@@ -114,4 +114,11 @@ pub(crate) fn count_stopping(groups: &[Group]) -> usize
     ensures { result ≡ length (filter (λ x. is_stopping x.group_stop) groups.now) }
 {
     groups.iter().filter(|g| g.group_stop.is_stopping()).count()
+}
+
+/// How many groups have a note for the starter.
+pub(crate) fn count_noted(groups: &[Group]) -> usize
+    ensures { result ≡ length (filter (λ x. is_some x.note) groups.now) }
+{
+    groups.iter().filter(|g| g.note.is_some()).count()
 }

@@ -26,6 +26,7 @@ mod records;
 mod roster_list;
 mod rows;
 mod slots;
+mod starter;
 mod starts;
 mod table;
 mod threads;

@@ -71,7 +71,7 @@ impl Threads {
 }
 
 /// The one id that a wait asks for, `None` where it asks for any.
-fn only_asked(which: Which) -> Option<u32>
+pub(crate) fn only_asked(which: Which) -> Option<u32>
     ensures { (n : ℕ) → asks_for which n ≡ is_asked result n }
 {
     match which {

@@ -5,14 +5,16 @@ ghost use Rattle.tr_model.specs.Journals.{occurs};
 ghost use Rattle.tr_model.specs.Tables.{ids_of};
 ghost use Rattle.tr_table.specs.Held.{bool_to_nat};
 ghost use Rattle.tr_table.specs.Tracing.{HasPlace, HasPlaces, IsTracing, is_before, relisted, tracer, waiter};
+ghost use Rattle.tr_table.specs.Waits.{is_untraced_death};
 
+use crate::counts::recounted;
 use crate::index::Index;
 use crate::multiset::Multiset;
 use std::alloc::{AllocError, Global};
 use std::marker::Model;
 use tr_tracee::Thread;
 
-/// What is kept of the threads for the waits of tracers.
+/// What is kept of the threads for waits: of their tracers, and of the starter.
 #[derive(Drop)]
 pub(crate) struct Tracing {
     /// The tracers of all tracees.
@@ -21,6 +23,8 @@ pub(crate) struct Tracing {
     waiters: Multiset,
     /// The ids of those, in table order.
     reporting: Vec<u32>,
+    /// For the starter: how many dead threads that nobody traces have a report.
+    untraced_deaths: usize,
 }
 
 impl Model for Tracing {
@@ -34,6 +38,7 @@ impl Model for Tracing {
       waiters = t.waiters;
       reporting = t.reporting.items;
       places = vec_capacity t.reporting;
+      untraced_deaths = t.untraced_deaths;
     } };
 }
 
@@ -54,6 +59,12 @@ fn waiter_of(thread: &Thread) -> Option<u32>
     } else {
         None
     }
+}
+
+fn is_untraced_death(thread: &Thread) -> bool
+    ensures { result ≡ is_untraced_death thread.now }
+{
+    thread.life.is_dead() && !thread.is_traced() && thread.report.is_some()
 }
 
 /// Whether the record of an id stands before a place.
@@ -103,6 +114,7 @@ impl Tracing {
             tracers: Multiset::new(alloc),
             waiters: Multiset::new(alloc),
             reporting: Vec::new(alloc),
+            untraced_deaths: 0,
         }
     }
 
@@ -132,6 +144,13 @@ impl Tracing {
         self.waiters.contains(actor)
     }
 
+    /// Whether some dead thread that nobody traces has a report.
+    pub(crate) fn has_untraced_deaths(&self) -> bool
+        ensures { result ≡ not (self.now.untraced_deaths == 0) }
+    {
+        self.untraced_deaths != 0
+    }
+
     /// The ids of all tracees that have a report, in table order.
     pub(crate) fn reporting(&self) -> &[u32]
         ensures { result.now ≡ self.now.reporting }
@@ -150,6 +169,7 @@ impl Tracing {
         let waiter = waiter_of(thread);
         self.tracers.recount(None, tracer_of(thread));
         self.waiters.recount(None, waiter);
+        self.untraced_deaths = recounted(self.untraced_deaths, false, is_untraced_death(thread));
         if waiter.is_some() {
             self.reporting.push_reserved(thread.id);
         }
@@ -185,6 +205,11 @@ impl Tracing {
         );
         self.tracers.recount(tracer_of(former), tracer_of(thread));
         self.waiters.recount(was, is);
+        self.untraced_deaths = recounted(
+            self.untraced_deaths,
+            is_untraced_death(former),
+            is_untraced_death(thread),
+        );
     }
 
     /// The thread at a place is to go.
@@ -209,5 +234,6 @@ impl Tracing {
         );
         self.tracers.recount(tracer_of(former), None);
         self.waiters.recount(was, None);
+        self.untraced_deaths = recounted(self.untraced_deaths, is_untraced_death(former), false);
     }
 }

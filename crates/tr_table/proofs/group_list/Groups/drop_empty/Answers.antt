@@ -1,9 +1,10 @@
-use Rattle.std.proofs.Common.{◌≡◌, ◌==◌, ◌||◌, filter, not, remove, Bool, ◌∙◌, List, Some, get_or, arith, ap, subst, sym}
+use Rattle.std.proofs.Common.{◌≡◌, ◌==◌, ◌||◌, filter, is_some, not, remove, Bool, ◌∙◌, List, Some, get_or, arith, ap, subst, sym}
 use Rattle.tr_group.specs.GroupStops.{is_stopping}
 use Rattle.tr_model.specs.declared.rows.Group.{Group}
 use Rattle.tr_table.specs.Held.{bool_to_nat}
 use Rattle.tr_table.specs.Private.{IsGroupPlace}
-use Rattle.tr_table.proofs.GroupLists.{all_kept, few_stopping, gone, none_kept_out, one_counted, one_goes}
+use Rattle.tr_table.proofs.Counting.{one_counted}
+use Rattle.tr_table.proofs.GroupLists.{all_kept, countable, gone, none_kept_out, one_goes}
 use Rattle.tr_table.proofs.group_list.Groups.drop_empty.Goals as goal
 
 pub returns-then-has_member : goal.returns-then-has_member
@@ -15,10 +16,21 @@ recounted-self-inside-requires-clause-was c =
     let x = c.remove-gone.result in
     let here : IsGroupPlace c.args.tgid xs (Some c.in-Some.place) = subst (λ (ys : List Group). IsGroupPlace c.args.tgid ys (Some c.in-Some.place)) (sym c.self.view_is) c.in-Some.ensures.place in
     let was : bool_to_nat c.is_stopping.result ≡ bool_to_nat (is_stopping (get_or xs c.in-Some.place x).group_stop) = ap bool_to_nat (c.is_stopping.ensures ∙ ap (λ (y : Group). is_stopping y.group_stop) c.remove-gone.ensures.value) in
-    omega (arith, was, one_counted xs c.in-Some.place x here.0, c.self.invariant.counted)
+    omega (arith, was, one_counted (λ (y : Group). is_stopping y.group_stop) xs c.in-Some.place x here.0, c.self.invariant.counted)
 
 pub recounted-self-inside-requires-clause-few : goal.recounted-self-inside-requires-clause-few
-recounted-self-inside-requires-clause-few c = omega (arith, few_stopping c.self.inside.list.items, c.self.invariant.counted, c.self.invariant.few)
+recounted-self-inside-requires-clause-few c = countable (λ (y : Group). is_stopping y.group_stop) c.self.inside.list.items c.self.inside.stopping c.self.invariant.few c.self.invariant.counted
+
+pub recounted-self-inside-requires-in-Some-clause-was : goal.recounted-self-inside-requires-in-Some-clause-was
+recounted-self-inside-requires-in-Some-clause-was c =
+    let xs = c.self.inside.list.items in
+    let x = c.remove-gone.result in
+    let here : IsGroupPlace c.args.tgid xs (Some c.in-Some.place) = subst (λ (ys : List Group). IsGroupPlace c.args.tgid ys (Some c.in-Some.place)) (sym c.self.view_is) c.in-Some.ensures.place in
+    let had : bool_to_nat c.is_some.result ≡ bool_to_nat (is_some (get_or xs c.in-Some.place x).note) = ap bool_to_nat (c.is_some.ensures ∙ ap (λ (y : Group). is_some y.note) c.remove-gone.ensures.value) in
+    omega (arith, had, one_counted (λ (y : Group). is_some y.note) xs c.in-Some.place x here.0, c.self.invariant.noted)
+
+pub recounted-self-inside-requires-in-Some-clause-few : goal.recounted-self-inside-requires-in-Some-clause-few
+recounted-self-inside-requires-in-Some-clause-few c = countable (λ (y : Group). is_some y.note) c.self.inside.list.items c.self.inside.noted c.self.invariant.few c.self.invariant.noted
 
 pub invariant_of-self : goal.invariant_of-self
 invariant_of-self c =
@@ -26,7 +38,8 @@ invariant_of-self c =
     let x = c.remove-gone.result in
     let here : IsGroupPlace c.args.tgid xs (Some c.in-Some.place) = subst (λ (ys : List Group). IsGroupPlace c.args.tgid ys (Some c.in-Some.place)) (sym c.self.view_is) c.in-Some.ensures.place in
     let was : bool_to_nat c.is_stopping.result ≡ bool_to_nat (is_stopping (get_or xs c.in-Some.place x).group_stop) = ap bool_to_nat (c.is_stopping.ensures ∙ ap (λ (y : Group). is_stopping y.group_stop) c.remove-gone.ensures.value) in
-    rw (c.remove-gone.ensures.items, c.remove.ensures) (gone xs _ _ _ c.in-Some.place x c.self.invariant here.0 (omega (arith, was, c.recounted-self-inside.ensures)))
+    let had : bool_to_nat c.is_some.result ≡ bool_to_nat (is_some (get_or xs c.in-Some.place x).note) = ap bool_to_nat (c.is_some.ensures ∙ ap (λ (y : Group). is_some y.note) c.remove-gone.ensures.value) in
+    rw (c.remove-gone.ensures.items, c.remove.ensures) (gone xs _ _ _ _ _ c.in-Some.place x c.self.invariant here.0 (omega (arith, was, c.recounted-self-inside.ensures)) (omega (arith, had, c.recounted-self-inside-in-Some.ensures)))
 
 pub returns-in-Some : goal.returns-in-Some
 returns-in-Some c =

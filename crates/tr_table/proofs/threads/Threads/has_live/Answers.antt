@@ -4,7 +4,7 @@ use Rattle.tr_tracee.specs.declared.thread.Thread.{Thread}
 use Rattle.tr_tracee.specs.Lives.{is_live}
 use Rattle.tr_tracee.specs.Threads.{in_group}
 use Rattle.tr_table.specs.Rosters.{RosterView}
-use Rattle.tr_table.proofs.ByIds.{any_counted}
+use Rattle.tr_table.proofs.Counting.{any_counted}
 use Rattle.tr_table.proofs.threads.Threads.has_live.Goals as goal
 
 pub returns : goal.returns

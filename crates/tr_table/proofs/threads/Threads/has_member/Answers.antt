@@ -1,6 +1,6 @@
 use Rattle.std.proofs.Common.{◌∙◌, ◌==◌, ℕ, not, ap, sym}
 use Rattle.tr_tracee.specs.Threads.{in_group}
-use Rattle.tr_table.proofs.ByIds.{any_counted}
+use Rattle.tr_table.proofs.Counting.{any_counted}
 use Rattle.tr_table.proofs.threads.Threads.has_member.Goals as goal
 
 pub returns : goal.returns

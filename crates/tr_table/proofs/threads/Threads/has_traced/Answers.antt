@@ -3,7 +3,7 @@ use Rattle.std.specs.List.{list_any}
 use Rattle.tr_tracee.specs.declared.thread.Thread.{Thread}
 use Rattle.tr_tracee.specs.Threads.{in_group, is_traced}
 use Rattle.tr_table.specs.Rosters.{RosterView}
-use Rattle.tr_table.proofs.ByIds.{any_counted}
+use Rattle.tr_table.proofs.Counting.{any_counted}
 use Rattle.tr_table.proofs.threads.Threads.has_traced.Goals as goal
 
 pub returns : goal.returns
