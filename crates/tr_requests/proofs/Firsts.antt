@@ -1,5 +1,5 @@
--- The first number of lists joined, the first thread that has a report, and whether a filter leaves anything.
-use Rattle.std.proofs.Common.{◌≡◌, ℕ, List, [], ◌∷◌, ◌++◌, Bool, true, false, not, ◌||◌, Option, Some, None, filter, find, flat_map, if◌then◌else◌, ap, sym, refl}
+-- The first number of lists joined, the first thread that has a report, and what a filter leaves.
+use Rattle.std.proofs.Common.{◌≡◌, ◌&&◌, ◌∙◌, ℕ, List, [], ◌∷◌, ◌++◌, Bool, true, false, not, ◌||◌, Option, Some, None, filter, find, flat_map, if◌then◌else◌, ap, sym, refl}
 use Rattle.std.specs.List.{list_any}
 use Rattle.std.specs.Option.{option_or}
 use Rattle.tr_model.specs.Takes.{is_empty}
@@ -20,6 +20,34 @@ any_is_left p (x ∷ xs) = go (p x) (any_is_left p xs)
     go : (b : Bool) → list_any p xs ≡ not (is_empty (filter p xs)) → (b || list_any p xs) ≡ not (is_empty (if b then x ∷ filter p xs else filter p xs))
     go true ih = refl
     go false ih = ih
+
+-- a test that passes only where another does, after it
+
+pub any_twice : {A : Type 0} (p q : A → Bool) (xs : List A) → list_any (λ x. p x && q x) (filter p xs) ≡ list_any (λ x. p x && q x) xs
+any_twice p q [] = refl
+any_twice p q (x ∷ xs) = go (p x) refl (any_twice p q xs)
+  where
+    go : (b : Bool) → p x ≡ b → list_any (λ y. p y && q y) (filter p xs) ≡ list_any (λ y. p y && q y) xs → list_any (λ y. p y && q y) (if b then x ∷ filter p xs else filter p xs) ≡ ((p x && q x) || list_any (λ y. p y && q y) xs)
+    go true e h = ap (λ b. (p x && q x) || b) h
+    go false e h = h ∙ ap (λ b. (b && q x) || list_any (λ y. p y && q y) xs) (sym e)
+
+pub filter_twice : {A : Type 0} (p q : A → Bool) (xs : List A) → filter (λ x. p x && q x) (filter p xs) ≡ filter (λ x. p x && q x) xs
+filter_twice p q [] = refl
+filter_twice p q (x ∷ xs) = go (p x) refl (filter_twice p q xs)
+  where
+    go : (b : Bool) → p x ≡ b → filter (λ y. p y && q y) (filter p xs) ≡ filter (λ y. p y && q y) xs
+        → filter (λ y. p y && q y) (if b then x ∷ filter p xs else filter p xs) ≡ (if p x && q x then x ∷ filter (λ y. p y && q y) xs else filter (λ y. p y && q y) xs)
+    go true e h = ap (λ us. if p x && q x then x ∷ us else us) h
+    go false e h = h ∙ ap (λ b. if b && q x then x ∷ filter (λ y. p y && q y) xs else filter (λ y. p y && q y) xs) (sym e)
+
+-- the first that is told of those that pass a test
+
+pub first_told : {A : Type 0} (f : A → List ℕ) (p : A → Bool) (x : A) (xs : List A) → first_number (flat_map f (filter p (x ∷ xs))) ≡ option_or (first_number (if p x then f x else [])) (first_number (flat_map f (filter p xs)))
+first_told f p x xs = go (p x)
+  where
+    go : (b : Bool) → first_number (flat_map f (if b then x ∷ filter p xs else filter p xs)) ≡ option_or (first_number (if b then f x else [])) (first_number (flat_map f (filter p xs)))
+    go true = first_append (f x) (flat_map f (filter p xs))
+    go false = refl
 
 -- the number of the thread's report, if it is there and has one
 abbrev pub number_in : Option Thread → Option ℕ

@@ -1,4 +1,5 @@
 mod Firsts
+mod Untold
 pub mod Cloning
 pub mod Leaving
 pub mod Restarting

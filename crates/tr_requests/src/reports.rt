@@ -32,8 +32,7 @@ pub fn admits_starter_wait(table: &Table, which: Which, flags: WaitFlags, number
         ≡ (is_some (ready_death table.now.table which number) || is_some
         (ready_note table.now.table which flags number)) }
 {
-    ready_death(table, table.groups(), which, number).is_some()
-        || ready_note(table, table.groups(), which, flags, number).is_some()
+    ready_death(table, which, number).is_some() || ready_note(table, which, flags, number).is_some()
 }
 
 /// What a wait of the starter that gives the report of a number tells.
@@ -42,7 +41,7 @@ pub fn waited_by_starter(table: &Table, which: Which, flags: WaitFlags, number: 
         ≡ waited_thread (ready_death table.now.table which number)
         (ready_note table.now.table which flags number) }
 {
-    let thread = ready_death(table, table.groups(), which, number).copied();
-    let group = ready_note(table, table.groups(), which, flags, number).copied();
+    let thread = ready_death(table, which, number).copied();
+    let group = ready_note(table, which, flags, number).copied();
     waited_thread(&thread, &group)
 }

@@ -1,6 +1,6 @@
 //! Waits of the starter of all groups: waitpid(2).
 
-ghost use Rattle.std.specs.Prelude.{◌≡◌, ◌&&◌, [], if◌then◌else◌, IfOk, OnErr, filter, flat_map, is_some, not, option_copied};
+ghost use Rattle.std.specs.Prelude.{◌≡◌, ◌&&◌, ◌||◌, [], if◌then◌else◌, IfOk, OnErr, filter, flat_map, is_some, not, option_copied};
 ghost use Rattle.std.specs.List.{list_any};
 ghost use Rattle.tr_wait.specs.Words.{asks_for};
 ghost use Rattle.tr_model.specs.Compare.{Permits};
@@ -8,7 +8,8 @@ ghost use Rattle.tr_model.specs.declared.events.Event.TheVariants.{StarterWait};
 ghost use Rattle.tr_model.specs.Preferred.{check};
 ghost use Rattle.tr_model.specs.Choices.{gives_report};
 ghost use Rattle.tr_model.specs.Tables.{has_traced, thread_of};
-ghost use Rattle.tr_model.specs.StarterWaits.{consume_note, death_number, has_death, note_number, note_wanted, ready_of_group, shows_note, starter_takes, wanted, with_death, with_note};
+ghost use Rattle.tr_model.specs.StarterWaits.{consume_note, death_number, has_death, note_number, note_wanted, ready_death, ready_for_starter, ready_note, ready_of_group, shows_note, starter_takes, wanted, with_death, with_note};
+ghost use Rattle.tr_table.specs.Waits.{is_untraced_death};
 ghost use Rattle.tr_steps.specs.UnderWay.{IsStepOf, Moves};
 ghost use Rattle.tr_requests.specs.Private.{first_number, led_among};
 
@@ -28,12 +29,20 @@ fn is_led(which: Which, group: &Group, leader: Option<&Thread>) -> bool
     which.asks_for(group.tgid) && leader.is_some()
 }
 
-fn has_led(table: &Table, groups: &[Group], which: Which) -> bool
+fn has_led_among(table: &Table, groups: &[Group], which: Which) -> bool
     ensures { result
         ≡ list_any
         (λ g. asks_for which g.tgid && is_some (thread_of table.now.table g.tgid)) groups.now }
 {
     groups.iter().any(|g| is_led(which, g, table.find(g.tgid)))
+}
+
+fn has_led(table: &Table, which: Which) -> bool
+    ensures { result
+        ≡ list_any (λ g. asks_for which g.tgid && is_some (thread_of table.now.table g.tgid))
+        table.now.table.groups }
+{
+    has_led_among(table, table.asked_groups(which), which)
 }
 
 /// The report of a dead leader that nobody traces.
@@ -116,26 +125,59 @@ fn ready_of_group(
     }
 }
 
-/// The first report, in table order, of the groups that the starter asks for.
-fn first_for_starter(table: &Table, groups: &[Group], which: Which, flags: WaitFlags) -> Option<u64>
+/// Whether the starter may be told something: there is a death that nobody traces, or such a note.
+fn may_tell(table: &Table, noted: bool) -> bool
+    ensures { result ≡ (list_any is_untraced_death table.now.table.threads || noted) }
+{
+    table.has_untraced_deaths() || noted
+}
+
+/// The report of a group that comes first, where the starter asks for the group and its leader is in the table. The
+/// leader isn't looked up where nothing can be told of the group.
+fn ready_of_led(table: &Table, which: Which, flags: WaitFlags, group: &Group) -> Option<u64>
+    ensures { result
+        ≡ first_number (if asks_for which group.now.tgid && is_some
+        (thread_of table.now.table group.now.tgid)
+        then ready_of_group table.now.table flags group.now
+        else []) }
+{
+    if !may_tell(table, is_note_wanted(flags, &group.note)) {
+        return None;
+    }
+    let leader = table.find(group.tgid);
+    if is_led(which, group, leader) {
+        ready_of_group(table, flags, group, leader)
+    } else {
+        None
+    }
+}
+
+#[tactic(auto, using(crate::proofs::Firsts::first_told))]
+fn first_among(table: &Table, groups: &[Group], which: Which, flags: WaitFlags) -> Option<u64>
     ensures { result
         ≡ first_number
         (flat_map (ready_of_group table.now.table flags)
         (led_among table.now.table which groups.now)) }
 {
     for group in groups {
-        let leader = table.find(group.tgid);
-        if is_led(which, group, leader) {
-            if let Some(number) = ready_of_group(table, flags, group, leader) {
-                return Some(number);
-            }
+        if let Some(number) = ready_of_led(table, which, flags, group) {
+            return Some(number);
         }
     }
     None
 }
 
-/// The first dead leader of the groups that the starter asks for that has the report of this number.
-pub(crate) fn ready_death<'a>(
+/// The first report, in table order, of the groups that the starter asks for.
+fn first_for_starter(table: &Table, which: Which, flags: WaitFlags) -> Option<u64>
+    ensures { result ≡ first_number (ready_for_starter table.now.table which flags) }
+{
+    if !may_tell(table, table.has_notes()) {
+        return None;
+    }
+    first_among(table, table.asked_groups(which), which, flags)
+}
+
+fn death_among<'a>(
     table: &'a Table,
     groups: &[Group],
     which: Which,
@@ -153,14 +195,23 @@ pub(crate) fn ready_death<'a>(
     None
 }
 
+/// The first dead leader of the groups that the starter asks for that has the report of this number.
+pub(crate) fn ready_death(table: &Table, which: Which, number: u64) -> Option<&Thread>
+    ensures { option_copied result ≡ ready_death table.now.table which number }
+{
+    if !table.has_untraced_deaths() {
+        return None;
+    }
+    death_among(table, table.asked_groups(which), which, number)
+}
+
 fn shows_note(table: &Table, which: Which, flags: WaitFlags, group: &Group) -> bool
     ensures { result ≡ shows_note table.now.table which flags group.now }
 {
     is_led(which, group, table.find(group.tgid)) && is_note_shown(table, flags, group)
 }
 
-/// The first of the groups that the starter asks for that has the note of this number.
-pub(crate) fn ready_note<'a>(
+fn note_among<'a>(
     table: &Table,
     groups: &'a [Group],
     which: Which,
@@ -178,6 +229,21 @@ pub(crate) fn ready_note<'a>(
     None
 }
 
+/// The first of the groups that the starter asks for that has the note of this number.
+pub(crate) fn ready_note(
+    table: &Table,
+    which: Which,
+    flags: WaitFlags,
+    number: u64,
+) -> Option<&Group>
+    ensures { option_copied result ≡ ready_note table.now.table which flags number }
+{
+    if !table.has_notes() {
+        return None;
+    }
+    note_among(table, table.asked_groups(which), which, flags, number)
+}
+
 /// Whether a wait of the starter is refused, answered Nothing, or due with the first report in table order. ECHILD comes
 /// for every other actor, and where there is no group that it asks for.
 #[tactic(auto, using(crate::proofs::Firsts::any_is_left))]
@@ -189,10 +255,10 @@ pub fn check_starter_wait(
 ) -> Result<Checked, Refusal>
     ensures { result ≡ check table.now.table actor (StarterWait which flags) }
 {
-    if actor != 1 || !has_led(table, table.groups(), which) {
+    if actor != 1 || !has_led(table, which) {
         return Err(Refusal::Child);
     }
-    Ok(giving(first_for_starter(table, table.groups(), which, flags)))
+    Ok(giving(first_for_starter(table, which, flags)))
 }
 
 /// The starter's wait gives the note of a group.
@@ -235,8 +301,8 @@ pub fn starter_wait(
     ensures err { OnErr result (step.new.work.table ≡ step.old.work.table) }
 {
     let table = step.table();
-    let thread = ready_death(table, table.groups(), which, r).copied();
-    let group = ready_note(table, table.groups(), which, flags, r).copied();
+    let thread = ready_death(table, which, r).copied();
+    let group = ready_note(table, which, flags, r).copied();
     let reply = waited_thread(&thread, &group);
     step.begin(0)?;
     starter_takes(step, &thread, &group);

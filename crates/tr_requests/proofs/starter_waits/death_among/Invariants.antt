@@ -1,7 +1,7 @@
 use Rattle.std.proofs.Common.{◌≡◌, drop}
 use Rattle.tr_model.specs.StarterWaits.{with_death}
 use Rattle.tr_requests.specs.Private.{led_among}
-use Rattle.tr_requests.proofs.starter_waits.ready_death.Given as goal
+use Rattle.tr_requests.proofs.starter_waits.death_among.Given as goal
 
 abbrev pub invariant-loop-group : goal.invariant-loop-group
 invariant-loop-group l =

@@ -1,6 +1,6 @@
 use Rattle.std.proofs.Common.{◌≡◌, drop, filter}
 use Rattle.tr_model.specs.StarterWaits.{shows_note, with_note}
-use Rattle.tr_requests.proofs.starter_waits.ready_note.Given as goal
+use Rattle.tr_requests.proofs.starter_waits.note_among.Given as goal
 
 abbrev pub invariant-loop-group : goal.invariant-loop-group
 invariant-loop-group l =

@@ -1,7 +1,7 @@
 use Rattle.std.proofs.Common.{◌≡◌, drop, flat_map}
 use Rattle.tr_model.specs.StarterWaits.{ready_of_group}
 use Rattle.tr_requests.specs.Private.{first_number, led_among}
-use Rattle.tr_requests.proofs.starter_waits.first_for_starter.Given as goal
+use Rattle.tr_requests.proofs.starter_waits.first_among.Given as goal
 
 abbrev pub invariant-loop-group : goal.invariant-loop-group
 invariant-loop-group l =
