@@ -7,6 +7,7 @@ mod one_queue;
 mod opening;
 mod pending;
 mod roster;
+mod starter;
 
 use std::alloc::{AllocError, Global};
 use std::fmt::Debug;
