@@ -2,6 +2,7 @@ mod foreseen;
 mod heard;
 mod kills;
 mod laws;
+mod starter;
 mod stops;
 mod tracer_ends;
 
