@@ -1,4 +1,4 @@
-ghost use Rattle.std.specs.Prelude.{◌≡◌, ◌<◌, ◌≤◌, ◌++◌, ◌∷◌, ◌==◌, ◌&&◌, [], ℕ, IfOk, None, OnErr, OnOk, length, Some, filter, get_or, not, option_copied, remove, slice_set};
+ghost use Rattle.std.specs.Prelude.{◌≡◌, ◌<◌, ◌≤◌, ◌++◌, ◌∷◌, ◌==◌, ◌&&◌, [], ℕ, IfOk, None, OnErr, OnOk, length, Some, false, filter, get_or, not, option_copied, remove, slice_set};
 ghost use Rattle.tr_tracee.specs.Lives.{is_dead};
 ghost use Rattle.tr_tracee.specs.Threads.{in_group};
 ghost use Rattle.tr_tracee.specs.Ends.{begun_to_leave_by_exec};
@@ -293,6 +293,9 @@ impl Threads {
         ensures { self.new ≡ changed id (applied change.now) self.old }
     {
         if let Some(place) = self.place(id) {
+            if !turns(change, &self.list[place]) {
+                return;
+            }
             let mut thread = self.list[place];
             change.make(&mut thread);
             self.write(place, &thread);
@@ -346,6 +349,18 @@ impl ThreadChange {
             ThreadChange::BeginExec => thread.begin_exec(),
             ThreadChange::EndExec => thread.end_exec(),
         }
+    }
+}
+
+/// Whether a change may make something else of a thread than it is.
+fn turns(change: &MemberChange, thread: &Thread) -> bool
+    ensures { result ≡ false → applied change.now thread.now ≡ thread.now }
+{
+    match change {
+        MemberChange::Mark => !thread.stop_mark && !thread.joined && thread.life.is_live(),
+        MemberChange::Continue(in_effect) => *in_effect || !thread.note_mark && thread.is_seized(),
+        MemberChange::NoteCont => thread.life.is_in_stop(),
+        MemberChange::Leave(..) => !thread.life.is_dead(),
     }
 }
 
