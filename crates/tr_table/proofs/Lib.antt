@@ -1,3 +1,4 @@
+pub mod Ascending
 pub mod GoodStarts
 pub mod GroupLists
 pub mod Helds

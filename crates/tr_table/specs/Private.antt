@@ -1,5 +1,5 @@
 -- What private contracts say.
-use Rattle.std.specs.Prelude.{◌≡◌, ℕ, ◌<◌, ◌≤◌, List, [], filter, is_some, length, map, remove, slice_get, slice_set, get_or, Option, Some, None}
+use Rattle.std.specs.Prelude.{◌≡◌, ℕ, ◌<◌, ◌≤◌, List, [], ◌∷◌, if◌then◌else◌, nat_lt, filter, is_some, length, map, remove, slice_get, slice_set, get_or, Option, Some, None}
 use Rattle.tr_pending.specs.declared.instance.Instance.{Instance}
 use Rattle.tr_tracee.specs.declared.thread.Thread.{Thread}
 use Rattle.tr_tracee.specs.Lives.{held}
@@ -74,3 +74,8 @@ pub record IsKept (ts : List Thread) (ids : List ℕ) (rosters : List (ℕ × Ro
   pub rostered : IsThreads ts ids rosters
   pub traced : IsTracing ts tracing
   pub places : HasPlaces (length ts) tracing
+
+-- the last of these numbers, where each is above those before it and above n
+abbrev pub last_ascending : ℕ → List ℕ → Option ℕ
+last_ascending n [] = Some n
+last_ascending n (x ∷ xs) = if nat_lt n x then last_ascending x xs else None

@@ -1,4 +1,4 @@
-ghost use Rattle.std.specs.Prelude.{◌≡◌, ◌==◌, ◌&&◌, ◌++◌, length, map, nat_le};
+ghost use Rattle.std.specs.Prelude.{true, ◌≡◌, ◌==◌, ◌&&◌, ◌++◌, length, map, nat_le};
 ghost use Rattle.std.specs.List.{list_all, list_any};
 ghost use Rattle.tr_table.specs.Starts.{
   ids_started,
@@ -12,6 +12,7 @@ ghost use Rattle.tr_table.specs.Starts.{
   may_be_set,
   no_repeat,
 };
+ghost use Rattle.tr_table.specs.Private.{last_ascending};
 
 use crate::starts::{GroupStart, Start};
 use tr_group::Action;
@@ -25,7 +26,10 @@ impl Start {
         ensures { result ≡ is_good self.now }
     {
         let groups = self.groups.as_slice();
-        are_good(groups) && are_few(groups) && have_good_ids(groups) && have_distinct_ids(groups)
+        are_good(groups)
+            && are_few(groups)
+            && have_good_ids(groups)
+            && (have_ascending_ids(groups) || have_distinct_ids(groups))
     }
 }
 
@@ -132,6 +136,34 @@ fn are_good_ids(threads: &[(u32, SigSet)]) -> bool
     threads
         .iter()
         .all(|thread| 2 <= thread.0 && thread.0 <= GREATEST_ID)
+}
+
+/// Whether each id is above all before it, so that none stands twice.
+fn have_ascending_ids(groups: &[GroupStart]) -> bool
+    ensures { result ≡ true → no_repeat (ids_started groups.now) ≡ true }
+{
+    let mut last = 0;
+    for group in groups {
+        match last_ascending(group.threads.as_slice(), last) {
+            Some(id) => last = id,
+            None => return false,
+        }
+    }
+    true
+}
+
+/// The last id of the threads, where each is above those before it and above this one.
+fn last_ascending(threads: &[(u32, SigSet)], from: u32) -> Option<u32>
+    ensures { result ≡ last_ascending from (map (λ t. t.0) threads.now) }
+{
+    let mut last = from;
+    for thread in threads {
+        if thread.0 <= last {
+            return None;
+        }
+        last = thread.0;
+    }
+    Some(last)
 }
 
 fn have_distinct_ids(groups: &[GroupStart]) -> bool
