@@ -2,11 +2,15 @@
 use Rattle.std.proofs.Common.{◌≡◌, ◌≢◌, ◌∙◌, ◌==◌, ◌&&◌, ◌||◌, ℕ, List, [], ◌∷◌, Bool, true, false, Some, if◌then◌else◌, filter, length, map, not, refl, sym, ap, subst, arith}
 use Rattle.std.specs.List.{list_any}
 use Rattle.std.proofs.lemmas.Bool.Decides.{nat_tests}
+use Rattle.tr_sigset.specs.Signals.{is_stop}
+use Rattle.tr_pending.specs.declared.instance.Instance.{Instance}
+use Rattle.tr_pending.specs.Waiting.{is_waiting}
 use Rattle.tr_tracee.specs.declared.thread.Thread.{Thread}
+use Rattle.tr_tracee.specs.Threads.{in_group}
 use Rattle.tr_model.specs.declared.rows.Target.{Target}
 use Rattle.tr_model.specs.declared.rows.Target.TheVariants as target
 use Rattle.tr_model.specs.declared.rows.Waiting.{Waiting}
-use Rattle.tr_model.specs.Tables.{group_of_thread, owner_in, same_target, thread_in}
+use Rattle.tr_model.specs.Tables.{group_of_thread, ids_of, owner_in, same_target, thread_in}
 use Rattle.tr_table.specs.Changes.{flushes, holds, is_flushed, queue_in}
 use Rattle.tr_table.specs.declared.picked.Flush.{Flush}
 use Rattle.tr_table.proofs.Keys.{same_self}
@@ -83,12 +87,31 @@ module _ (ts : List Thread) (g : ℕ) (f : Flush) where
         go false a true false b c h e rest = rest h e
         go false a false c b d h e rest = rest h e
 
-    pub none_held : holds f (target.Group g) ws ≡ false → list_any (λ t. t.group == g && holds f (target.Thread t.id) ws) ts ≡ false → list_any (is_flushed ts g f) ws ≡ false
-    none_held shared own = none_flushed ws owned
+    of_members : (us : List Thread) → list_any (λ id. holds f (target.Thread id) ws) (ids_of (filter (in_group g) us)) ≡ false → list_any (λ t. t.group == g && holds f (target.Thread t.id) ws) us ≡ false
+    of_members [] h = refl
+    of_members (t ∷ us) h = go (t.group == g) h (of_members us)
+      where
+        M : List Thread
+        M = filter (in_group g) us
+
+        L : Bool
+        L = list_any (λ u. u.group == g && holds f (target.Thread u.id) ws) us
+
+        go : (b : Bool) → list_any (λ id. holds f (target.Thread id) ws) (ids_of (if b then t ∷ M else M)) ≡ false
+            → (list_any (λ id. holds f (target.Thread id) ws) (ids_of M) ≡ false → L ≡ false) → ((b && holds f (target.Thread t.id) ws) || L) ≡ false
+        go true h rest = by (holds f (target.Thread t.id) ws) h
+          where
+            by : (c : Bool) → (c || list_any (λ id. holds f (target.Thread id) ws) (ids_of M)) ≡ false → (c || L) ≡ false
+            by true k = cc
+            by false k = rest k
+        go false h rest = rest h
+
+    pub none_held : holds f (target.Group g) ws ≡ false → list_any (λ id. holds f (target.Thread id) ws) (ids_of (filter (in_group g) ts)) ≡ false → list_any (is_flushed ts g f) ws ≡ false
+    none_held shared members = none_flushed ws owned
       where
         owned : (q : Target) → (owner_in ts q == g) ≡ true → holds f q ws ≡ false
         owned (target.Group h) e = let same : g ≡ h = grind (arith, nat_tests, e) in subst (λ n. holds f (target.Group n) ws ≡ false) same shared
-        owned (target.Thread id) e = held_by ts id own e
+        owned (target.Thread id) e = held_by ts id (of_members ts members) e
 
 -- a queue of none holds none
 pub none_held_of : (p : Waiting → Bool) (q : Target) (ws : List Waiting) → ((w : Waiting) → same_target q w.target ≡ false → p w ≡ false) → length (queue_in q ws) ≡ 0 → list_any p ws ≡ false
@@ -101,3 +124,29 @@ none_held_of p q (w ∷ ws) only h = go (same_target q w.target) refl h (none_he
     go : (b : Bool) → same_target q w.target ≡ b → length (map (λ (v : Waiting). v.instance) (if b then w ∷ G else G)) ≡ 0 → (length (queue_in q ws) ≡ 0 → list_any p ws ≡ false) → (p w || list_any p ws) ≡ false
     go true e h rest = absurd (omega (arith, h))
     go false e h rest = ap (λ b. b || list_any p ws) (only w e) ∙ rest h
+
+-- of no instance a test passes
+pub none_of_none : (p : Waiting → Bool) (ws : List Waiting) → length ws ≡ 0 → list_any p ws ≡ false
+none_of_none p [] h = refl
+none_of_none p (w ∷ ws) h = absurd (omega (arith, h))
+
+-- a stop signal is one of the four
+one_of_four : (n : ℕ) → is_stop n ≡ (n == 19 || (n == 20 || (n == 21 || n == 22)))
+one_of_four n = grind (arith, nat_tests)
+
+pub any_stop : (is : List Instance) → list_any (λ i. is_stop i.sig) is ≡ (is_waiting 19 is || (is_waiting 20 is || (is_waiting 21 is || is_waiting 22 is)))
+any_stop [] = refl
+any_stop (i ∷ is) = ap (λ b. b || list_any (λ j. is_stop j.sig) is) (one_of_four i.sig) ∙ (ap (λ b. (i.sig == 19 || (i.sig == 20 || (i.sig == 21 || i.sig == 22))) || b) (any_stop is) ∙ mixed (i.sig == 19) (i.sig == 20) (i.sig == 21) (i.sig == 22) (is_waiting 19 is) (is_waiting 20 is) (is_waiting 21 is) (is_waiting 22 is))
+  where
+    mixed : (a b c d x y z w : Bool) → ((a || (b || (c || d))) || (x || (y || (z || w)))) ≡ ((a || x) || ((b || y) || ((c || z) || (d || w))))
+    mixed true b c d x y z w = refl
+    mixed false true c d true y z w = refl
+    mixed false true c d false y z w = refl
+    mixed false false true d true y z w = refl
+    mixed false false true d false true z w = refl
+    mixed false false true d false false z w = refl
+    mixed false false false true true y z w = refl
+    mixed false false false true false true z w = refl
+    mixed false false false true false false true w = refl
+    mixed false false false true false false false w = refl
+    mixed false false false false x y z w = refl

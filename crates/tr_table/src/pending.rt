@@ -1,4 +1,4 @@
-ghost use Rattle.std.specs.Prelude.{◌≡◌, ◌==◌, ◌&&◌, ◌+◌, ◌<◌, ◌≤◌, ◌++◌, ◌∷◌, [], OnErr, OnOk, false, filter, get_or, length, map, not, set, vec_capacity, vec_len};
+ghost use Rattle.std.specs.Prelude.{◌≡◌, ◌==◌, ◌+◌, ◌<◌, ◌≤◌, ◌++◌, ◌∷◌, [], OnErr, OnOk, false, filter, get_or, length, map, not, set, vec_capacity, vec_len};
 ghost use Rattle.std.specs.List.{list_any};
 ghost use Rattle.tr_model.specs.declared.fates.Fate.TheVariants.{Flushed};
 ghost use Rattle.tr_model.specs.declared.rows.Target.TheVariants as target;
@@ -21,7 +21,6 @@ use std::alloc::{AllocError, Global};
 use tr_model::{Ending, Target, Waiting};
 use tr_pending::Instance;
 use tr_sigset::{SigSet, Signal};
-use tr_tracee::Thread;
 
 /// All that waits, in slots that stand in order of acceptance, with an index of its lines and queues.
 pub(crate) struct Pending {
@@ -259,32 +258,22 @@ impl Pending {
         enter_all(&mut self.lines, &mut self.queues, &self.slots);
     }
 
-    /// Whether the target's queue may hold what is flushed; where it doesn't, it holds none.
-    fn may_hold(&self, target: Target, flush: &Flush) -> bool
+    /// Whether the target's queue holds what is flushed.
+    fn holds(&self, target: Target, flush: &Flush) -> bool
         requires { IsPending self.now }
-        ensures { result ≡ false → holds flush.now target (standing self.now.slots.items) ≡ false }
+        ensures { result ≡ holds flush.now target (standing self.now.slots.items) }
     {
-        match flush {
-            Flush::Stops => self.queue_len(target) > 0,
-            Flush::Cont => self.is_waiting(target, Signal::CONT),
-            Flush::One(signal) => self.is_waiting(target, *signal),
-        }
+        flush.takes_some(self.mask(target))
     }
 
-    /// Whether a thread's own queue of the group may hold what is flushed.
-    fn may_thread_hold(&self, threads: &[Thread], tgid: u32, flush: &Flush) -> bool
+    /// Whether the own queue of a thread with one of these ids holds what is flushed.
+    fn threads_hold(&self, ids: &[u32], flush: &Flush) -> bool
         requires { IsPending self.now }
-        ensures { result ≡ false
-            → list_any (λ t. t.group == tgid
-            && holds flush.now (target.Thread t.id) (standing self.now.slots.items)) threads.now
-            ≡ false }
+        ensures { result
+            ≡ list_any
+            (λ id. holds flush.now (target.Thread id) (standing self.now.slots.items)) ids.now }
     {
-        for thread in threads {
-            if thread.group == tgid && self.may_hold(Target::Thread(thread.id), flush) {
-                return true;
-            }
-        }
-        false
+        ids.iter().any(|id| self.holds(Target::Thread(*id), flush))
     }
 
     /// Whether a queue of the group may hold what is flushed.
@@ -294,11 +283,14 @@ impl Pending {
             → list_any (is_flushed threads.now tgid flush.now) (standing self.now.slots.items)
             ≡ false }
     {
+        if self.count == 0 {
+            return false;
+        }
         // The target of no thread has the owner 0.
-        if tgid == 0 || self.may_hold(Target::Group(tgid), flush) {
+        if tgid == 0 || self.holds(Target::Group(tgid), flush) {
             return true;
         }
-        self.may_thread_hold(threads.as_slice(), tgid, flush)
+        self.threads_hold(threads.member_ids(tgid).as_slice(), flush)
     }
 
     /// Whether something may be picked; where not, none is.

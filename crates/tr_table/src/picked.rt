@@ -1,4 +1,8 @@
-ghost use Rattle.std.specs.Prelude.{◌≡◌, ◌+◌, ◌≤◌, ◌++◌, filter, length, map, vec_len, vec_capacity};
+ghost use Rattle.std.specs.Prelude.{List, ◌≡◌, ◌+◌, ◌≤◌, ◌++◌, ◌||◌, filter, length, map, vec_len, vec_capacity};
+ghost use Rattle.std.specs.List.{list_any};
+ghost use Rattle.tr_sigset.specs.Sets.{has};
+ghost use Rattle.tr_pending.specs.declared.instance.Instance.{Instance};
+ghost use Rattle.tr_pending.specs.Waiting.{IsMask};
 ghost use Rattle.tr_model.specs.Moves.{ending_of};
 ghost use Rattle.tr_model.specs.Tables.{same_target};
 ghost use Rattle.tr_model.specs.declared.fates.Fate.TheVariants.{Flushed};
@@ -31,6 +35,40 @@ pub(crate) enum Picked {
     Queue(Target),
     /// Those of a queue whose signal is in the set.
     Set(Target, SigSet),
+}
+
+fn has_number(signals: SigSet, number: u8) -> bool
+    requires least { 1 ≤ number }
+    requires greatest { number ≤ 64 }
+    ensures { result ≡ has signals number }
+{
+    signals.has(Signal::new(number).unwrap())
+}
+
+/// Whether some of the signals is STOP, TSTP, TTIN or TTOU.
+fn has_stop(signals: SigSet) -> bool
+    ensures { result
+        ≡ (has signals 19 || (has signals 20 || (has signals 21 || has signals 22))) }
+{
+    signals.has(Signal::STOP)
+        || has_number(signals, 20)
+        || has_number(signals, 21)
+        || has_number(signals, 22)
+}
+
+impl Flush {
+    /// Whether it is of some of these signals.
+    pub(crate) fn takes_some(&self, signals: SigSet) -> bool
+        ensures { (is : List Instance)
+            → IsMask signals is
+            → result ≡ list_any (λ i. flushes self.now i.sig) is }
+    {
+        match self {
+            Flush::Stops => has_stop(signals),
+            Flush::Cont => signals.has(Signal::CONT),
+            Flush::One(signal) => signals.has(*signal),
+        }
+    }
 }
 
 fn flushes(flush: &Flush, signal: Signal) -> bool
