@@ -1,4 +1,5 @@
-ghost use Rattle.std.specs.Prelude.{◌≡◌, ◌+◌, ◌≤◌, ◌++◌, [], decimal, drop, length};
+ghost use Rattle.std.specs.Prelude.{◌≡◌, ◌+◌, ◌<◌, ◌≤◌, ◌++◌, [], decimal, drop, false, length};
+ghost use Rattle.std.specs.Fmt.{digit_glyph, digits, signed_decimal};
 ghost use Rattle.tr_text.specs.Buffers.{Composed};
 
 use itoa::write_digits;
@@ -63,5 +64,49 @@ impl<const N: usize> TextBuffer<N> {
         ensures short { length (decimal number) ≤ 20 }
     {
         self.start = write_digits(number, &mut self.bytes, self.start);
+    }
+
+    /// Puts a number before the text, in decimal digits, after a `-` where it is below 0.
+    #[inline(always)]
+    pub fn prepend_signed(&mut self, number: i32)
+        requires { 21 ≤ self.old.room }
+        ensures text { self.new.text ≡ signed_decimal number ++ self.old.text }
+        ensures room { self.new.room + length (signed_decimal number) ≡ self.old.room }
+        ensures short { length (signed_decimal number) ≤ 21 }
+    {
+        self.prepend_number(u64::from(number.unsigned_abs()));
+        if number < 0 {
+            self.prepend(b"-");
+        }
+    }
+
+    /// Puts a number before the text, in hexadecimal digits of lower case.
+    pub fn prepend_hexadecimal(&mut self, number: u32)
+        requires { 8 ≤ self.old.room }
+        ensures text { self.new.text ≡ digits 16 false number ++ self.old.text }
+        ensures room { self.new.room + length (digits 16 false number) ≡ self.old.room }
+        ensures short { length (digits 16 false number) ≤ 8 }
+    {
+        let mut left = number;
+        for _ in 0..8u32 {
+            self.prepend(&[digit((left % 16) as u8)]);
+            left /= 16;
+            if left == 0 {
+                return;
+            }
+        }
+    }
+}
+
+/// The hexadecimal digit of a number below 16.
+#[inline(always)]
+fn digit(number: u8) -> u8
+    requires { number < 16 }
+    ensures { result ≡ digit_glyph false number }
+{
+    if number < 10 {
+        b'0' + number
+    } else {
+        b'a' - 10 + number
     }
 }
