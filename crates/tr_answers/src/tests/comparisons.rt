@@ -47,7 +47,7 @@ agrees: 4 answers
     )
 }
 
-/// A call after some steps, of which so many have an answer.
+/// A call after some steps. With it, so many have an answer.
 #[derive(Clone, Copy)]
 struct Call<'a> {
     before: &'a str,
@@ -70,7 +70,7 @@ fn are_given<R: Abort + AllocGlobal>(rt: &R, call: &Call<'_>, cases: &str) -> Re
         if !made.is_empty() {
             write!(want, "{}: assumed `{made}`\n", call.name)?;
         }
-        write!(want, "agrees: {} answers\n", call.known + 1)?;
+        write!(want, "agrees: {} answers\n", call.known)?;
         are_compared(rt, &steps, &want)?;
     }
     Ok(())
@@ -117,7 +117,7 @@ nothing";
 fn takes_that_are_open(rt: HostRuntime) -> Result<(), Fail> {
     let call = Call {
         before: TAKES,
-        known: 2,
+        known: 3,
         step: r#"{"actor":10,"do":"take","tid":10"#,
         name: "step 4: `10 take`",
     };
@@ -161,7 +161,7 @@ nothing";
 fn waits_that_are_open(rt: HostRuntime) -> Result<(), Fail> {
     let call = Call {
         before: STOPS,
-        known: 2,
+        known: 3,
         step: r#"{"actor":900,"do":"wait","tid":0"#,
         name: "step 5: `900 wait`",
     };
@@ -189,7 +189,7 @@ _ 20";
 fn clones(rt: HostRuntime) -> Result<(), Fail> {
     let call = Call {
         before: "",
-        known: 0,
+        known: 1,
         step: r#"{"actor":10,"do":"clone","tid":10"#,
         name: "step 1: `10 clone`",
     };
