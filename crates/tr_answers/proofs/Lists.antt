@@ -1,6 +1,5 @@
 -- Answers in a list, with commas between.
-use Rattle.std.proofs.Common.{◌≡◌, ℕ, List, [], ◌∷◌, ◌++◌, ap, sym, append-nil, codes, map, Result, Ok, Err, refl}
-use Rattle.tr_model.specs.declared.replies.Refusal.{Refusal}
+use Rattle.std.proofs.Common.{◌≡◌, ℕ, List, [], ◌∷◌, ◌++◌, ap, sym, append-nil, codes, map, Ok}
 use Rattle.tr_model.specs.declared.replies.Reply.{Reply}
 use Rattle.tr_answers.specs.Comparisons.{listed, quoted}
 

@@ -1,5 +1,5 @@
 -- The id that a text names, where it fits the answer to a clone.
-use Rattle.std.proofs.Common.{◌≡◌, ◌≢◌, ◌⊎◌, ◌∙◌, ◌<◌, ◌^◌, ◌==◌, ℕ, List, [], ◌∷◌, ap, append-nil, sym, refl, inl, inr, length, Bool, true, false, ◌&&◌, ◌||◌, codes, decimal, Option, None, Some, MatchOption, Ok, arith, lit<, subst}
+use Rattle.std.proofs.Common.{◌≡◌, ◌≢◌, ◌⊎◌, ◌∙◌, ◌<◌, ◌^◌, ◌==◌, ℕ, List, [], ◌∷◌, ap, append-nil, sym, refl, inl, inr, length, Bool, true, false, ◌&&◌, ◌||◌, codes, decimal, Option, None, Some, MatchOption, arith, lit<, subst}
 use Rattle.std.proofs.lemmas.Fmt.{decimal_injective, digits_decimal}
 use Rattle.std.proofs.lemmas.List.Splits.{join_with_byte-slice_split, slice_split-cons_no, slice_split_first, slice_split_none}
 use Rattle.std.proofs.lemmas.List.Sums.{fails_before_first}
@@ -9,7 +9,7 @@ use Rattle.std.specs.Borrow.{Bor}
 use Rattle.std.proofs.lemmas.Slice.Eq.{bytes_eq-Decides}
 use Rattle.std.proofs.lemmas.Str.Parse.{numerals_by_value, tells_digits}
 use Rattle.std.specs.Int.{IsInRange}
-use Rattle.std.specs.List.{after_first, join_with_byte, onto_first, position_or_len, slice_split}
+use Rattle.std.specs.List.{after_first, join_with_byte, onto_first, position_or_len}
 use Rattle.std.specs.Str.{bytes_eq}
 use Rattle.std.specs.Str.Parse.{AllDigits}
 use Rattle.tr_model.specs.declared.replies.Reply.TheVariants.{Cloned}

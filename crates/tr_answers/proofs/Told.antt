@@ -1,5 +1,5 @@
 -- A comparison that is printed, from its parts.
-use Rattle.std.proofs.Common.{◌≡◌, ◌≤◌, ◌⊎◌, ◌∙◌, ℕ, Bool, true, false, List, [], ◌∷◌, ◌++◌, ap, sym, refl, inl, inr, append-nil, append_assoc, length, length-append, map, nat_le, if◌then◌else◌, leb-true, subst, Result, Ok, Err, arith}
+use Rattle.std.proofs.Common.{◌≡◌, ◌≤◌, ◌⊎◌, ◌∙◌, ℕ, Bool, true, false, List, [], ◌++◌, ap, sym, refl, inl, inr, append-nil, append_assoc, length, length-append, map, nat_le, if◌then◌else◌, leb-true, subst, Result, Ok, Err, arith}
 use Rattle.serde_json.specs.Data.{Data}
 use Rattle.tr_kernel.specs.States.{State, opened}
 use Rattle.tr_table.specs.Starts.{is_good}
@@ -11,13 +11,12 @@ use Rattle.tr_scenario.specs.Fields.{◌>>=◌}
 use Rattle.tr_scenario.specs.Printing.{IsHalt}
 use Rattle.tr_scenario.specs.Printing as page
 use Rattle.tr_scenario.specs.Scenarios.{calls_of_steps, has_repeats, is_small, json_of, whole}
-use Rattle.tr_scenario.specs.Serial.{IsUnread}
 use Rattle.tr_scenario.specs.Sources.{Came, IsSound, Shown}
 use Rattle.tr_scenario.proofs.Halts.{front_none}
 use Rattle.tr_scenario.proofs.Wholes.{at}
 use Rattle.tr_answers.specs.declared.records.Record.{Record}
-use Rattle.tr_answers.specs.Comparisons.{Agrees, Asked, Differs, Goes, Tells, agreement_line, asked_from, known}
-use Rattle.tr_answers.specs.Compares.{Compares, HasRead, IsRefused, Prints, Starts}
+use Rattle.tr_answers.specs.Comparisons.{Asked, Tells, agreement_line, asked_from, known}
+use Rattle.tr_answers.specs.Compares.{Compares, HasRead, Prints}
 use Rattle.tr_answers.specs.Private.{Walks}
 use Rattle.tr_answers.specs.Records.{asked, record_of, walk, whole_record}
 

@@ -1,5 +1,5 @@
 -- The calls of a comparison, one after the other.
-use Rattle.std.proofs.Common.{◌≡◌, ◌≤◌, ◌<◌, ◌+◌, ◌-◌, ◌∙◌, ℕ, suc, List, [], ◌∷◌, ◌++◌, ap, sym, refl, inl, inr, append-nil, append_assoc, length, length-append, get_or, drop, drop-cons, add-one, replicate, subst, Bool, true, false, Result, Ok, Err, arith}
+use Rattle.std.proofs.Common.{◌≡◌, ◌≤◌, ◌<◌, ◌+◌, ◌-◌, ◌∙◌, ℕ, suc, List, [], ◌∷◌, ◌++◌, ap, sym, refl, inl, inr, append-nil, append_assoc, length, length-append, get_or, drop, drop-cons, add-one, replicate, subst, Bool, true, false, Ok, Err, arith}
 use Rattle.tr_kernel.specs.States.{State}
 use Rattle.tr_status.specs.Writing.{IsFront}
 use Rattle.tr_scenario.specs.declared.faults.ScenarioFault.{ScenarioFault}

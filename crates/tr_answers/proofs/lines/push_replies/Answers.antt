@@ -1,4 +1,4 @@
-use Rattle.std.proofs.Common.{◌≡◌, ◌++◌, ◌∙◌, ap, append-nil, drop_of_length-le, string_bytes, sym}
+use Rattle.std.proofs.Common.{◌++◌, ◌∙◌, ap, append-nil, drop_of_length-le, string_bytes, sym}
 use Rattle.tr_answers.proofs.Lists.{listed_is}
 use Rattle.tr_answers.proofs.lines.push_replies.Goals as goal
 
