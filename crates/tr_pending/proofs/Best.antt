@@ -1,6 +1,6 @@
 -- The best instance is the first of the least signal that waits and isn't blocked.
 use Rattle.std.proofs.Common.{◌≡◌, ◌≢◌, ℕ, suc, ◌+◌, ◌<◌, ◌≤◌, Bool, true, false, if◌then◌else◌, not, ◌&&◌, ◌||◌, ◌==◌, nat_le, List, [], ◌∷◌, Option, Some, None, refl, sym, ap, ◌∙◌, arith, slice_get, inl, inr, subst}
-use Rattle.std.proofs.lemmas.Bool.{cases_lt, eq-eqb, or_left, or_right}
+use Rattle.std.proofs.lemmas.Bool.{cases_lt, eq-eqb, false≢true, or_left, or_right, true≢false}
 use Rattle.std.proofs.lemmas.Bool.Decides.{nat_tests, eqb_tells}
 use Rattle.std.proofs.lemmas.Option.{same_Some}
 use Rattle.tr_sigset.specs.Sets.{has}
@@ -10,18 +10,15 @@ use Rattle.tr_pending.specs.declared.instance.Instance.{Instance}
 
 -- tests and options
 
-not_both : (b : Bool) → b ≡ true → b ≡ false → ⊥
-not_both b t f = cc
-
 both : (a b : Bool) → (a && not b) ≡ true → (a ≡ true) × (b ≡ false)
-both true true h = absurd (not_both true refl (sym h))
+both true true h = absurd (false≢true h)
 both true false h = (refl, refl)
-both false b h = absurd (not_both true refl (sym h))
+both false b h = absurd (false≢true h)
 
 second : (a b : Bool) → (a && not b) ≡ false → a ≡ true → b ≡ true
 second true true h e = refl
-second true false h e = absurd (not_both true refl h)
-second false b h e = absurd (not_both false e refl)
+second true false h e = absurd (true≢false h)
+second false b h e = absurd (false≢true e)
 
 -- a queue with one more in front
 
@@ -69,7 +66,7 @@ module _ (blocked : SigSet) where
 
   none_step : (b : Bool) (x : Instance) (q : List Instance) → has blocked x.sig ≡ b → ((n : ℕ) → is_waiting n (x ∷ q) ≡ true → has blocked n ≡ true) → best_of blocked q ≡ None → best_with b x (best_of blocked q) ≡ None
   none_step true x q e all_blocked rest = rest
-  none_step false x q e all_blocked rest = absurd (not_both _ (all_blocked x.sig (waits_here x q)) e)
+  none_step false x q e all_blocked rest = absurd (true≢false (sym (all_blocked x.sig (waits_here x q)) ∙ e))
 
   best_none : (q : List Instance) → ((n : ℕ) → is_waiting n q ≡ true → has blocked n ≡ true) → best_of blocked q ≡ None
   best_none [] all_blocked = refl
@@ -87,7 +84,7 @@ module _ (blocked : SigSet) where
     NoneBelow q = (n : ℕ) → n < least → is_waiting n q ≡ true → has blocked n ≡ true
 
     at_least : (q : List Instance) → NoneBelow q → (k : Instance) → IsReady k q → least ≤ k.sig
-    at_least q low k r = elim (cases_lt k.sig least) [ inl l ↦ absurd (not_both _ (low k.sig l r.waits) r.unblocked) | inr g ↦ g ]
+    at_least q low k r = elim (cases_lt k.sig least) [ inl l ↦ absurd (true≢false (sym (low k.sig l r.waits) ∙ r.unblocked)) | inr g ↦ g ]
 
     other_step : (b : Bool) (x j : Instance) (q : List Instance) → has blocked x.sig ≡ b → NoneBelow (x ∷ q) → x.sig ≢ least → best_of blocked q ≡ Some j → j.sig ≡ least → best_with b x (best_of blocked q) ≡ Some j
     other_step true x j q e low ne best number = best

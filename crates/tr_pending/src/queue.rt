@@ -1,5 +1,6 @@
 ghost use Rattle.std.specs.Prelude.{◌≡◌, ◌+◌, ◌<◌, ◌≤◌, ◌==◌, [], ◌++◌, if◌then◌else◌, IsTrue, OnErr, OnOk, length, map, vec_capacity, vec_len};
 ghost use Rattle.std.specs.List.{position};
+ghost use Rattle.tr_pending.specs.View.{places};
 ghost use Rattle.tr_pending.specs.Waiting.{IsMask, after_put, best_of, first_of, flushed_by, is_waiting, kept_by, merges, without_first};
 
 use crate::instance::Instance;
@@ -43,7 +44,7 @@ impl Model for Queue {
 impl Queue {
     /// A queue in which nothing waits. It takes no memory.
     pub fn new(alloc: Global) -> Queue
-        ensures { result.waiting ≡ [] }
+        ensures { (result.waiting ≡ []) × (result.room ≡ 0) }
     {
         Queue {
             items: Vec::new(alloc),
@@ -83,9 +84,7 @@ impl Queue {
         ensures answer { result
             ≡ (if merges instance.sig self.old.waiting then Put.Merged else Put.Queued) }
         ensures waiting { self.new.waiting ≡ after_put instance self.old.waiting }
-        ensures room { self.old.room ≤ self.new.room + 1 }
-        ensures merged { IsTrue (merges instance.sig self.old.waiting)
-            → self.new.room ≡ self.old.room }
+        ensures room { places self.new ≡ places self.old }
     {
         let signal = instance.sig;
         if !signal.is_real_time() && self.mask.has(signal) {
@@ -110,7 +109,7 @@ impl Queue {
     pub fn take_sig(&mut self, signal: Signal) -> Option<Instance>
         ensures taken { result ≡ first_of signal self.old.waiting }
         ensures waiting { self.new.waiting ≡ without_first signal self.old.waiting }
-        ensures room { self.old.room ≤ self.new.room }
+        ensures room { places self.new ≡ places self.old }
     {
         match place_of(&self.items, signal) {
             Some(place) => {
@@ -132,7 +131,7 @@ impl Queue {
         ensures named { gone.new.items
             ≡ gone.old.items ++ map (λ i. i.n) (flushed_by set self.old.waiting) }
         ensures waiting { self.new.waiting ≡ kept_by set self.old.waiting }
-        ensures room { self.old.room ≤ self.new.room }
+        ensures room { places self.new ≡ places self.old }
         ensures capacity { vec_capacity gone.new ≡ vec_capacity gone.old }
     {
         let count = note_gone(&self.items, set, gone);

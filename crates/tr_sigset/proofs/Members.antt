@@ -5,6 +5,7 @@ use Rattle.std.specs.Int.{bit_at, bit_not, trailing_zeros, w64}
 use Rattle.std.proofs.lemmas.Nat.Bits.{bit_at_or, bit_at_and, bit_at_not, bit_at-pow_same, bit_at-pow_other, bit_at-zero, bit_at-lt, same_from_bits_below, shr_and_one, bit_at-trailing_zeros}
 use Rattle.std.proofs.lemmas.Bool.Decides.{nat_tests}
 use Rattle.std.proofs.lemmas.Nat.{pow_below}
+use Rattle.std.proofs.Math.Bool.{and-false}
 use Rattle.std.proofs.Math.Nat.{mod-eq_of_lt}
 use Rattle.tr_sigset.specs.Sets.{in_word}
 use Rattle.tr_sigset.specs.Signals.{IsSignal}
@@ -41,10 +42,6 @@ where_true : (p x y : Bool) → (p ≡ true → x ≡ y) → (p && x) ≡ (p && 
 where_true true x y same = same refl
 where_true false x y same = refl
 
-never : (p : Bool) → (p && false) ≡ false
-never true = refl
-never false = refl
-
 pub in_range : (n : ℕ) → (nat_le 1 n && nat_le n 64) ≡ true → n - 1 < 64
 in_range n e = grind (arith, nat_tests)
 
@@ -52,7 +49,7 @@ in_range n e = grind (arith, nat_tests)
 
 pub in_word-zero : (n : ℕ) → in_word 0 n ≡ false
 unfolding in_word
-in_word-zero n = rw (bit_at-zero (n - 1)) (never (nat_le 1 n && nat_le n 64))
+in_word-zero n = rw (bit_at-zero (n - 1)) (and-false (nat_le 1 n && nat_le n 64))
 
 pub in_word-union : (a b n : ℕ) → in_word (bit_or a b) n ≡ (in_word a n || in_word b n)
 unfolding in_word
@@ -89,7 +86,7 @@ single_same s p q = rw (bit_at-pow_same (s - 1)) (grind (arith, nat_tests))
 
 single_other : (s n : ℕ) → 1 ≤ s → 1 ≤ n → n ≢ s → in_word (2 ^ (s - 1)) n ≡ false
 unfolding in_word
-single_other s n p q ne = ap (λ v. (nat_le 1 n && nat_le n 64) && (v == 1)) (bit_at-pow_other (s - 1) (n - 1) (λ e. ne (omega (arith, e)))) ∙ never (nat_le 1 n && nat_le n 64)
+single_other s n p q ne = ap (λ v. (nat_le 1 n && nat_le n 64) && (v == 1)) (bit_at-pow_other (s - 1) (n - 1) (λ e. ne (omega (arith, e)))) ∙ and-false (nat_le 1 n && nat_le n 64)
 
 single_none : (s n : ℕ) → n ≡ 0 → in_word (2 ^ (s - 1)) n ≡ false
 unfolding in_word
