@@ -11,17 +11,18 @@ use Rattle.tr_tracee.specs.declared.thread.Report.{Report}
 use Rattle.tr_tracee.specs.declared.thread.Thread.{Thread}
 use Rattle.tr_tracee.specs.Lives.{held, is_dead, message}
 use Rattle.tr_tracee.specs.Threads.{in_group, is_traced}
+use Rattle.tr_model.specs.declared.events.Event.{Event}
 use Rattle.tr_model.specs.declared.events.Event.TheVariants as event
 use Rattle.tr_model.specs.declared.replies.Refusal.{Refusal}
 use Rattle.tr_model.specs.declared.replies.Reply.TheVariants as reply
 use Rattle.tr_model.specs.declared.rows.Group.{Group}
-use Rattle.tr_model.specs.Causes.{can_take_thread, exists_where, first_cause, is_in, message_of, message_reply, nothing_where, siginfo, siginfo_of, thread_then}
+use Rattle.tr_model.specs.Causes.{can_take_thread, cause_of, exists_where, first_cause, is_in, message_of, message_reply, nothing_where, quiet_of, siginfo, siginfo_of, thread_then}
 use Rattle.tr_model.specs.Journals.{IsSorted}
 use Rattle.tr_model.specs.Laws.{PreferredIsAdmitted}
 use Rattle.tr_model.specs.Journals.{DistinctIds}
 use Rattle.tr_model.specs.Laws.{HasFreeId, NothingIsExact}
-use Rattle.tr_model.specs.Preferred.{best_for, clone_choice, new_id, reporting, take_any_choice, take_choice, taking, taking_by}
-use Rattle.tr_model.specs.Steps.{is_new, takes}
+use Rattle.tr_model.specs.Preferred.{best_for, clone_choice, new_id, preferred, reporting, take_any_choice, take_choice, taking, taking_by}
+use Rattle.tr_model.specs.Steps.{Admits, is_new, takes}
 use Rattle.tr_model.specs.Choices.{gives_id, gives_report, takes_by, takes_instance}
 use Rattle.tr_model.specs.Tables.{Table, has_traced, members, thread_of}
 use Rattle.tr_model.specs.Takes.{can_take, choices, is_empty, with_number}
@@ -305,10 +306,14 @@ clone_admitted : (T : Table) (o : Option Thread) (causes : Thread → List (Opti
 clone_admitted T None causes free e = cc
 clone_admitted T (Some t) causes free e = (new_id T t.group, refl, new_id_is_new T t.group free)
 
+-- a clone alone needs a free id
+pub admitted_where_free : (T : Table) (a : ℕ) (e : Event) → ((id : ℕ) → e ≡ event.CloneThread id → HasFreeId T) → DistinctIds T → IsSorted T.waiting → cause_of T a e ≡ None → quiet_of T a e ≡ None → Admits T a e (preferred T a e)
+admitted_where_free T a (event.Take id) free ids s c q = take_admitted T (thread_of T id) s (not-false _ (something _ q))
+admitted_where_free T a (event.TakeAny g) free ids s c q = take_any_admitted T g ids s (not-false _ (something _ q))
+admitted_where_free T a (event.Wait which) free ids s c q = wait_admitted T a which (something _ q)
+admitted_where_free T a (event.StarterWait which flags) free ids s c q = starter_admitted T which flags (something _ q)
+admitted_where_free T a (event.CloneThread id) free ids s c q = clone_admitted T (thread_of T id) _ (free id refl) c
+admitted_where_free T a _ free ids s c q = refl
+
 pub preferred_is_admitted : PreferredIsAdmitted
-preferred_is_admitted T a (event.Take id) free ids s c q = take_admitted T (thread_of T id) s (not-false _ (something _ q))
-preferred_is_admitted T a (event.TakeAny g) free ids s c q = take_any_admitted T g ids s (not-false _ (something _ q))
-preferred_is_admitted T a (event.Wait which) free ids s c q = wait_admitted T a which (something _ q)
-preferred_is_admitted T a (event.StarterWait which flags) free ids s c q = starter_admitted T which flags (something _ q)
-preferred_is_admitted T a (event.CloneThread id) free ids s c q = clone_admitted T (thread_of T id) _ free c
-preferred_is_admitted T a _ free ids s c q = refl
+preferred_is_admitted T a e free = admitted_where_free T a e (λ id is. free)

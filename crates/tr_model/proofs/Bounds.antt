@@ -369,7 +369,7 @@ third_false true false true e = cc
 third_false true true c e = cc
 third_false false b c e = cc
 
-room_for : (T : Table) (o : Option Thread) → Causes.first_cause (Causes.thread_then o (λ t. Causes.script T t ++ Causes.refused_if (Causes.at_limit T t) Again ∷ [])) ≡ None → length T.threads < 1024
+pub room_for : (T : Table) (o : Option Thread) → Causes.first_cause (Causes.thread_then o (λ t. Causes.script T t ++ Causes.refused_if (Causes.at_limit T t) Again ∷ [])) ≡ None → length T.threads < 1024
 room_for T None e = cc
 room_for T (Some t) e = leb-false 1024 (length T.threads) (or_parts _ _ (third_false _ _ (Causes.at_limit T t) e)).0
 

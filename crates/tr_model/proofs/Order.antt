@@ -41,7 +41,7 @@ use Rattle.tr_tracee.specs.Stops as TraceeStops
 use Rattle.tr_model.proofs.Among.{Among, among_filter, filter_among, is_in-last}
 use Rattle.tr_model.proofs.Compared.{numbered_among}
 
-all_among : {A : Type 0} (p : A → Bool) (x : A) (xs : List A) → list_all p xs ≡ true → Among x xs → p x ≡ true
+pub all_among : {A : Type 0} (p : A → Bool) (x : A) (xs : List A) → list_all p xs ≡ true → Among x xs → p x ≡ true
 all_among p x [] a h = absurd h
 all_among p x (y ∷ ys) a (inl s) = ap p s ∙ (and_parts _ _ a).0
 all_among p x (y ∷ ys) a (inr m) = all_among p x ys (and_parts _ _ a).1 m

@@ -112,7 +112,7 @@ numbered_there i [] m = absurd m
 numbered_there i (j ∷ is) (inl e) = rw (eq-eqb j.n i.n (ap (λ z. z.n) (sym e))) refl
 numbered_there i (j ∷ is) (inr m) = elim (j.n == i.n) as (λ b. is_some (if b then Some j else with_number i.n is) ≡ true) [ true ↦ refl | false ↦ numbered_there i is m ]
 
-queue_in_order : (T : Table) (q : Target) → IsSorted T.waiting → InOrder (queue T q)
+pub queue_in_order : (T : Table) (q : Target) → IsSorted T.waiting → InOrder (queue T q)
 queue_in_order T q s = let p = λ (w : Waiting). same_target q w.target in sorted_instances (filter p T.waiting) (sorted_filter p T.waiting s)
 
 -- what a thread takes that can take something
@@ -229,7 +229,7 @@ chosen_waits T mask q i m =
     let b = filter_among (λ j. not (has mask j.sig)) i (queue T q) a.0 in
     among_queue (λ w. same_target q w.target) i T.waiting b.0
 
-past_among : (n : ℕ) (i : Instance) (is : List Instance) → Past n is → Among i is → n < i.n
+pub past_among : (n : ℕ) (i : Instance) (is : List Instance) → Past n is → Among i is → n < i.n
 past_among n i [] p m = absurd m
 past_among n i (x ∷ is) p (inl e) = subst (λ z. n < z.n) (sym e) p.0
 past_among n i (x ∷ is) p (inr m) = past_among n i is p.1 m

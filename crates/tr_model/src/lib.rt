@@ -12,6 +12,7 @@ mod limits;
 mod raises;
 mod replies;
 mod rows;
+mod same_rows;
 mod sameness;
 
 pub use checked::Checked;
@@ -31,4 +32,5 @@ pub use limits::{GREATEST_ID, MOST_MEMBERS, MOST_THREADS};
 pub use raises::Raise;
 pub use replies::{Did, Refusal, Reply};
 pub use rows::{Group, Name, Target, Waiting};
+pub use same_rows::same_list;
 pub use sameness::Same;
