@@ -1,8 +1,9 @@
 -- The threads of a group, one after the other by their ids; and how many of them pass a test.
-use Rattle.std.proofs.Common.{◌≡◌, ◌==◌, ◌&&◌, ◌≤◌, ◌∙◌, ◌⊎◌, inl, inr, ℕ, zero, suc, List, [], ◌∷◌, Bool, true, false, Option, Some, cond, drop, if◌then◌else◌, filter, length, map, arith, refl, ap, sym, eq-eqb}
+use Rattle.std.proofs.Common.{◌≡◌, ◌==◌, ◌&&◌, ◌≤◌, ◌∙◌, ◌⊎◌, inl, inr, ℕ, zero, suc, List, [], ◌∷◌, Bool, true, false, Option, Some, cond, drop, if◌then◌else◌, filter, length, map, arith, refl, ap, sym, eq-eqb, ◌<◌, None, get_or}
 use Rattle.std.specs.List.{list_all, list_any}
 use Rattle.std.proofs.lemmas.Bool.{cases_eq, ne_eqb}
 use Rattle.std.proofs.lemmas.List.Folds.{list_all-map}
+use Rattle.tr_group.specs.Members.{at_place, member}
 use Rattle.tr_tracee.specs.declared.thread.Thread.{Thread}
 use Rattle.tr_tracee.specs.Threads.{at_group, in_group}
 use Rattle.tr_model.specs.Journals.{occurs}
@@ -61,6 +62,47 @@ all_found q g ts once = sym (list_all-map q (thread_in ts) (ids_in g ts)) ∙ (a
 
 pub any_found : (q : Option Thread → Bool) (g : ℕ) (ts : List Thread) → ((n : ℕ) → occurs n (ids_of ts) ≤ 1) → list_any (λ n. q (thread_in ts n)) (ids_in g ts) ≡ list_any (λ t. q (Some t)) (filter (in_group g) ts)
 any_found q g ts once = sym (any_mapped q (thread_in ts) (ids_in g ts)) ∙ (ap (list_any q) (found (in_group g) ts once) ∙ any_mapped q Some (filter (in_group g) ts))
+
+-- the first of a list that isn't empty
+abbrev first_of : List (Option Thread) → Option Thread
+first_of [] = None
+first_of (o ∷ os) = o
+
+abbrev later : List (Option Thread) → List (Option Thread)
+later [] = []
+later (o ∷ os) = os
+
+at_both : (f : ℕ → Option Thread) (ns : List ℕ) (ms : List Thread) (i : ℕ) (d : Thread) → map f ns ≡ map Some ms → i < length ms → f (get_or ns i 0) ≡ Some (get_or ms i d)
+at_both f ns [] i d e h = absurd (omega (arith, h))
+at_both f [] (m ∷ ms) i d e h = cc
+at_both f (n ∷ ns) (m ∷ ms) zero d e h = ap first_of e
+at_both f (n ∷ ns) (m ∷ ms) (suc i) d e h = at_both f ns ms i d (ap later e) (omega (arith, h))
+
+nth : (ms : List Thread) (i : ℕ) → i < length ms → Thread
+nth [] i h = absurd (omega (arith, h))
+nth (m ∷ ms) zero h = m
+nth (m ∷ ms) (suc i) h = nth ms i (omega (arith, h))
+
+-- the one at a place of the group has the id there
+pub found_at : (g : ℕ) (ts : List Thread) (i : ℕ) (d : Thread) → ((n : ℕ) → occurs n (ids_of ts) ≤ 1) → i < length (filter (in_group g) ts) → thread_in ts (get_or (ids_in g ts) i 0) ≡ Some (get_or (filter (in_group g) ts) i d)
+found_at g ts i d once h = at_both (thread_in ts) (ids_in g ts) (filter (in_group g) ts) i d (found (in_group g) ts once) h
+
+-- and so there is one
+pub is_there : (g : ℕ) (ts : List Thread) (i : ℕ) → ((n : ℕ) → occurs n (ids_of ts) ≤ 1) → i < length (filter (in_group g) ts) → (t : Thread) × (thread_in ts (get_or (ids_in g ts) i 0) ≡ Some t)
+is_there g ts i once h = let d = nth (filter (in_group g) ts) i h in (get_or (filter (in_group g) ts) i d, found_at g ts i d once h)
+
+member_at : (g i : ℕ) (ts : List Thread) (d : Thread) → i < length (filter (in_group g) ts) → member g i ts ≡ Some (get_or (filter (in_group g) ts) i d)
+member_at g i [] d h = absurd (omega (arith, h))
+member_at g i (t ∷ ts) d h = go i (t.group == g) h (λ j. member_at g j ts d)
+  where
+    go : (i : ℕ) (b : Bool) → i < length (cond b (t ∷ filter (in_group g) ts) (filter (in_group g) ts)) → ((j : ℕ) → j < length (filter (in_group g) ts) → member g j ts ≡ Some (get_or (filter (in_group g) ts) j d))
+        → (if b then at_place i t (λ j. member g j ts) else member g i ts) ≡ Some (get_or (cond b (t ∷ filter (in_group g) ts) (filter (in_group g) ts)) i d)
+    go zero true l r = refl
+    go (suc i) true l r = r i (omega (arith, l))
+    go i false l r = r i l
+
+pub member_found : (g i : ℕ) (ts : List Thread) (d : Thread) → ((n : ℕ) → occurs n (ids_of ts) ≤ 1) → i < length (filter (in_group g) ts) → thread_in ts (get_or (ids_in g ts) i 0) ≡ member g i ts
+member_found g i ts d once h = found_at g ts i d once h ∙ sym (member_at g i ts d h)
 
 -- each is changed
 

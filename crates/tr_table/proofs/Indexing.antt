@@ -1,7 +1,6 @@
 -- A list of ids of which none stands twice.
-use Rattle.std.proofs.Common.{◌≡◌, ◌==◌, ◌≤◌, ◌∙◌, ◌⊎◌, inl, inr, ℕ, zero, suc, List, [], ◌∷◌, ◌++◌, Bool, false, if◌then◌else◌, remove, nat_eq, arith, sym, ap}
+use Rattle.std.proofs.Common.{◌≡◌, ◌==◌, ◌≤◌, ◌∙◌, ◌⊎◌, inl, inr, ℕ, zero, suc, List, [], ◌∷◌, ◌++◌, false, remove, arith, sym, ap}
 use Rattle.std.specs.List.{list_any}
-use Rattle.indexmap.specs.IndexSet.{insert_key}
 use Rattle.std.proofs.lemmas.Bool.{cases_eq, eq-eqb, ne_eqb}
 use Rattle.tr_model.specs.Journals.{occurs}
 use Rattle.tr_model.proofs.Among.{occurs-append}
@@ -22,14 +21,3 @@ once_removed xs i once n = omega (arith, once n, fewer xs i)
     fewer [] (suc i) = omega arith
     fewer (x ∷ xs) zero = omega arith
     fewer (x ∷ xs) (suc i) = omega (arith, fewer xs i)
-
-either_way : (id n : ℕ) → nat_eq id n ≡ (n == id)
-either_way id n = go (cases_eq n id)
-  where
-    go : (n ≡ id) ⊎ (n ≡ id → ⊥) → nat_eq id n ≡ (n == id)
-    go (inl e) = eq-eqb id n (sym e) ∙ sym (eq-eqb n id e)
-    go (inr e) = ne_eqb id n (λ h. e (sym h)) ∙ sym (ne_eqb n id e)
-
--- what `insert` makes of a new id
-pub grown : (id : ℕ) (xs ys : List ℕ) → ys ≡ insert_key nat_eq xs id → list_any (λ n. n == id) xs ≡ false → ys ≡ xs ++ id ∷ []
-grown id xs ys e h = e ∙ ap (λ (b : Bool). if b then xs else xs ++ id ∷ []) ((λ j. list_any (λ n. either_way id n j) xs) ∙ h)

@@ -4,6 +4,7 @@ pub mod GroupLists
 pub mod Helds
 pub mod Ids
 pub mod Indexing
+pub mod Numbered
 pub mod Keeping
 pub mod Keys
 pub mod Standing
@@ -15,6 +16,7 @@ pub mod Holding
 pub mod LeftLines
 pub mod Orders
 pub mod Places
+pub mod RosterLists
 pub mod Rostering
 pub mod Rosters
 pub mod SetActions
@@ -24,6 +26,7 @@ pub mod Multisets
 pub mod Traced
 pub mod Tracings
 pub mod Reports
+pub mod Restoring
 pub mod ByIds
 pub mod Counting
 pub mod FreeIds

@@ -2,7 +2,7 @@
 use Rattle.std.proofs.Common.{Bor, ◌≡◌, ◌==◌, ◌&&◌, ◌||◌, ◌≤◌, ◌∙◌, ◌⊎◌, inl, inr, ℕ, List, [], ◌∷◌, Bool, true, false, not, Option, Some, None, cond, if◌then◌else◌, filter, find, is_some, length, map, arith, refl, ap, sym, eq-eqb}
 use Rattle.std.specs.List.{list_any}
 use Rattle.std.specs.Option.{option_copied}
-use Rattle.std.proofs.lemmas.Bool.{cases_eq, eqb-true, ne_eqb}
+use Rattle.std.proofs.lemmas.Bool.{and_parts, cases_eq, eqb-true, ne_eqb}
 use Rattle.tr_tracee.specs.declared.thread.Report.{Report}
 use Rattle.tr_tracee.specs.declared.thread.Thread.{Thread}
 use Rattle.tr_tracee.specs.declared.thread.Trace.{Trace}
@@ -57,10 +57,6 @@ others id (t ∷ ts) h = go (id == t.id) refl (others id ts)
     go true e r = absurd (omega (arith, h, ap {B = ℕ} (λ (b : Bool). if b then 1 else 0) (eq-eqb t.id id (sym (eqb-true id t.id e)))))
     go false e r = r (omega (arith, h))
 
-and_first : (a b : Bool) → (a && b) ≡ true → a ≡ true
-and_first true b e = refl
-and_first false b e = e
-
 pub found_by_id : (q : Thread → Bool) (id : ℕ) (ts : List Thread) → ((n : ℕ) → occurs n (ids_of ts) ≤ 1) → find (λ t. (id == t.id) && q t) ts ≡ if_passes q (thread_in ts id)
 found_by_id q id [] once = refl
 found_by_id q id (t ∷ ts) once = go (cases_eq t.id id) (found_by_id q id ts (λ n. omega (arith, once n)))
@@ -68,7 +64,7 @@ found_by_id q id (t ∷ ts) once = go (cases_eq t.id id) (found_by_id q id ts (�
     go : (t.id ≡ id) ⊎ (t.id ≡ id → ⊥) → find (λ u. (id == u.id) && q u) ts ≡ if_passes q (thread_in ts id)
         → (if (id == t.id) && q t then Some t else find (λ u. (id == u.id) && q u) ts) ≡ if_passes q (if t.id == id then Some t else thread_in ts id)
     go (inl e) r =
-        let rest : find (λ u. (id == u.id) && q u) ts ≡ None = none_found (λ u. id == u.id) ts (others id ts (omega (arith, once id, ap {B = ℕ} (λ (b : Bool). if b then 1 else 0) (eq-eqb t.id id e)))) (λ u. (id == u.id) && q u) (λ u. and_first (id == u.id) (q u)) in
+        let rest : find (λ u. (id == u.id) && q u) ts ≡ None = none_found (λ u. id == u.id) ts (others id ts (omega (arith, once id, ap {B = ℕ} (λ (b : Bool). if b then 1 else 0) (eq-eqb t.id id e)))) (λ u. (id == u.id) && q u) (λ u h. (and_parts (id == u.id) (q u) h).0) in
         ap (λ b. if b && q t then Some t else find (λ u. (id == u.id) && q u) ts) (eq-eqb id t.id (sym e)) ∙ (ap (λ o. if q t then Some t else o) rest ∙ ap (λ b. if_passes q (if b then Some t else thread_in ts id)) (sym (eq-eqb t.id id e)))
     go (inr e) r = ap (λ b. if b && q t then Some t else find (λ u. (id == u.id) && q u) ts) (ne_eqb id t.id (λ k. e (sym k))) ∙ (r ∙ ap (λ b. if_passes q (if b then Some t else thread_in ts id)) (sym (ne_eqb t.id id e)))
 
@@ -166,7 +162,7 @@ no_report None = refl
 no_report (Some n) = refl
 
 tells : (a : ℕ) (number : Option ℕ) (o : Option Trace) (r : Option Report) → (traces a o && is_report number r) ≡ true → is_number a (if is_some r then tracer_of o else None) ≡ true
-tells a number o (Some x) e = is_tracer a o ∙ and_first (traces a o) (is_report number (Some x)) e
+tells a number o (Some x) e = is_tracer a o ∙ (and_parts (traces a o) (is_report number (Some x)) e).0
 tells a number o None e = absurd (never (traces a o) (ap (λ b. traces a o && b) (sym (no_report number)) ∙ e))
   where
     never : (b : Bool) → (b && false) ≡ true → ⊥

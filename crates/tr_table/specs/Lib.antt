@@ -7,8 +7,10 @@ pub mod Queues
 pub mod Lines
 pub mod Slots
 pub mod Rows
+pub mod Pages
 pub mod Held
 pub mod Rosters
 pub mod Tracing
 pub mod Waits
 pub mod Private
+pub mod Snapshots

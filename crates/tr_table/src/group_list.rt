@@ -84,6 +84,16 @@ impl Groups {
         self.list.as_slice()
     }
 
+    /// The groups, in table order. No two have one id.
+    pub(crate) fn copy(&self, alloc: Global) -> Result<Vec<Group>, AllocError>
+        ensures list { IfOk result (λ list. list.items ≡ self.now) }
+        ensures once { (n : ℕ) → occurs n (tgids_of self.now) ≤ 1 }
+    {
+        let mut list = Vec::with_capacity(alloc, self.index.len())?;
+        list.extend_from_slice(&self.list)?;
+        Ok(list)
+    }
+
     /// How many group-stops are under way.
     pub(crate) fn stopping(&self) -> usize
         ensures { result ≡ stopping_in self.now }

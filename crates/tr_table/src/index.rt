@@ -1,26 +1,40 @@
 ghost use Rattle.std.specs.Prelude.{◌≡◌, ℕ, ◌<◌, ◌≤◌, ◌==◌, ◌++◌, ◌∷◌, [], OnOk, OnErr, false, length, position, remove};
 ghost use Rattle.std.specs.List.{list_any};
 ghost use Rattle.tr_model.specs.Journals.{occurs};
+ghost use Rattle.tr_table.specs.Pages.{IsIndex, IsMoved};
 
-use indexmap::IndexSet;
+use crate::pages::Pages;
 use std::alloc::{AllocError, Global};
 use std::marker::Model;
 
 /// The ids of a list's records, in the list's order: where the record of an id stands.
 #[derive(Drop)]
 pub(crate) struct Index {
-    set: IndexSet<u32>,
+    ids: Vec<u32>,
+    /// Of each id its place, counted from 1.
+    pages: Pages,
 }
 
 impl Model for Index {
-    ghost use Rattle.std.specs.Prelude.{List, ℕ, ◌≤◌};
-    ghost use Rattle.tr_model.specs.Journals.{occurs};
+    ghost use Rattle.std.specs.Prelude.{List, ℕ};
+    ghost use Rattle.tr_table.specs.Pages.{IsIndex};
 
     ghost Value = { List ℕ };
 
-    ghost view = { λ a. a.set.keys };
+    ghost view = { λ a. a.ids.items };
 
-    ghost invariant = { λ a. (n : ℕ) → occurs n a.set.keys ≤ 1 };
+    ghost invariant = { λ a. IsIndex a.ids.items a.pages };
+}
+
+/// Lowers the numbers of the ids from a place on, after which one has gone.
+fn move_up(ids: &[u32], pages: &mut Pages, place: usize)
+    requires once { (n : ℕ) → occurs n ids.now ≤ 1 }
+    requires moved { IsMoved place ids.now pages.old }
+    ensures { IsIndex ids.now pages.new }
+{
+    for at in place..ids.len() {
+        pages.set(ids[at], at + 1);
+    }
 }
 
 impl Index {
@@ -28,16 +42,26 @@ impl Index {
         ensures { result ≡ [] }
     {
         Index {
-            set: IndexSet::new(alloc),
+            ids: Vec::new(alloc),
+            pages: Pages::new(alloc),
         }
     }
 
+    /// How many ids there are. None stands twice.
+    pub(crate) fn len(&self) -> usize
+        ensures len { result ≡ length self.now }
+        ensures once { (n : ℕ) → occurs n self.now ≤ 1 }
+    {
+        self.ids.len()
+    }
+
     /// Where an id stands. None stands twice.
+    #[inline(always)]
     pub(crate) fn place(&self, id: u32) -> Option<usize>
         ensures at { result ≡ position (λ n. n == id) self.now }
         ensures once { (n : ℕ) → occurs n self.now ≤ 1 }
     {
-        self.set.get_index_of(&id)
+        self.pages.number(id).checked_sub(1)
     }
 
     /// A new id comes last. Where memory is refused nothing has changed.
@@ -46,7 +70,10 @@ impl Index {
         ensures ok { OnOk result (self.new ≡ self.old ++ id ∷ []) }
         ensures err { OnErr result (self.new ≡ self.old) }
     {
-        self.set.insert(id)?;
+        self.ids.reserve(1)?;
+        self.pages.open(id)?;
+        self.ids.push_reserved(id);
+        self.pages.set(id, self.ids.len());
         Ok(())
     }
 
@@ -55,6 +82,8 @@ impl Index {
         requires { place < length self.old }
         ensures { self.new ≡ remove self.old place }
     {
-        let _id = self.set.shift_remove_index(place);
+        let id = self.ids.remove(place);
+        self.pages.set(id, 0);
+        move_up(&self.ids, &mut self.pages, place);
     }
 }

@@ -23,8 +23,8 @@ impl Members for Threads {
     }
 
     fn at(&self, tgid: u32, i: usize) -> Thread {
-        let place = place_of(&self.list, tgid, i);
-        self.list[place]
+        let id = *self.ids_in(tgid).get(i).unwrap();
+        *self.find(id).unwrap()
     }
 
     fn put(&mut self, tgid: u32, i: usize, thread: Thread) {

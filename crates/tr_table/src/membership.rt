@@ -35,6 +35,14 @@ impl Threads {
         self.rosters.copy_ids(tgid)
     }
 
+    /// The same, where they stand.
+    pub(crate) fn ids_in(&self, tgid: u32) -> &[u32]
+        ensures ids { result.now ≡ ids_of (filter (in_group tgid) self.now) }
+        ensures once { (n : ℕ) → occurs n (ids_of self.now) ≤ 1 }
+    {
+        self.rosters.ids(tgid)
+    }
+
     pub(crate) fn has_traced(&self, tgid: u32) -> bool
         ensures { result ≡ list_any is_traced (filter (in_group tgid) self.now) }
     {
@@ -64,7 +72,7 @@ impl Threads {
         ensures { result
             ≡ list_all (λ t. t.id == id || is_dead t.life) (filter (in_group tgid) self.now) }
     {
-        all_are_or_are_dead(self, self.rosters.ids(tgid), id)
+        all_are_or_are_dead(self, self.ids_in(tgid), id)
     }
 
     pub(crate) fn some_blocks(&self, tgid: u32, signal: Signal) -> bool
@@ -72,7 +80,7 @@ impl Threads {
             ≡ list_any (λ t. is_live t.life && has t.mask signal)
             (filter (in_group tgid) self.now) }
     {
-        some_block(self, self.rosters.ids(tgid), signal)
+        some_block(self, self.ids_in(tgid), signal)
     }
 }
 

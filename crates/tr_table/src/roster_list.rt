@@ -1,10 +1,10 @@
-ghost use Rattle.std.specs.Prelude.{◌≡◌, ℕ, ◌<◌, ◌≤◌, ◌==◌, [], filter, OnErr, OnOk, if◌then◌else◌, length, not};
+ghost use Rattle.std.specs.Prelude.{◌≡◌, ℕ, ◌<◌, ◌≤◌, ◌==◌, [], filter, MatchOption, OnErr, OnOk, if◌then◌else◌, length, not};
 ghost use Rattle.tr_table.specs.Rosters.{Counts, IsSmall, no_one, rewritten, roster_in, roster_of, unless_empty, with_last, without};
 ghost use Rattle.tr_tracee.specs.Threads.{in_group};
 
 use crate::counts::recounted;
+use crate::index::Index;
 use arrayvec::ArrayVec;
-use indexmap::IndexMap;
 use std::alloc::{AllocError, Global};
 use std::marker::Model;
 use tr_tracee::Thread;
@@ -100,19 +100,23 @@ impl Roster {
     }
 }
 
-/// The roster of each group that has threads.
+/// The roster of each group that has threads, found by the group's id.
 #[derive(Drop)]
 pub(crate) struct Rosters {
-    map: IndexMap<u32, Roster>,
+    index: Index,
+    list: Vec<Roster>,
 }
 
 impl Model for Rosters {
-    ghost use Rattle.std.specs.Prelude.{List, ℕ};
+    ghost use Rattle.std.specs.Prelude.{List, ℕ, ◌≡◌, length};
+    ghost use Rattle.std.specs.List.{zip};
     ghost use Rattle.tr_table.specs.Rosters.{RosterView};
 
     ghost Value = { List (ℕ × RosterView) };
 
-    ghost view = { λ r. r.map.entries };
+    ghost view = { λ r. zip r.index r.list.items };
+
+    ghost invariant = { λ r. length r.index ≡ length r.list.items };
 }
 
 impl Rosters {
@@ -120,15 +124,24 @@ impl Rosters {
         ensures { result ≡ [] }
     {
         Rosters {
-            map: IndexMap::new(alloc),
+            index: Index::new(alloc),
+            list: Vec::new(alloc),
         }
+    }
+
+    fn roster(&self, tgid: u32) -> Option<&Roster>
+        ensures { MatchOption result (roster_in self.now tgid ≡ no_one)
+            (λ r. r.now ≡ roster_in self.now tgid) }
+    {
+        let place = self.index.place(tgid)?;
+        Some(&self.list[place])
     }
 
     /// The ids of a group's threads, in table order.
     pub(crate) fn ids(&self, tgid: u32) -> &[u32]
         ensures { result.now ≡ (roster_in self.now tgid).ids }
     {
-        match self.map.get(&tgid) {
+        match self.roster(tgid) {
             Some(roster) => roster.ids.as_slice(),
             None => &[],
         }
@@ -138,7 +151,7 @@ impl Rosters {
     pub(crate) fn count(&self, tgid: u32) -> usize
         ensures { result ≡ length (roster_in self.now tgid).ids }
     {
-        match self.map.get(&tgid) {
+        match self.roster(tgid) {
             Some(roster) => roster.ids.len(),
             None => 0,
         }
@@ -149,7 +162,7 @@ impl Rosters {
         ensures { result.items ≡ (roster_in self.now tgid).ids }
     {
         let mut ids = ArrayVec::new();
-        if let Some(roster) = self.map.get(&tgid) {
+        if let Some(roster) = self.roster(tgid) {
             for id in roster.ids.as_slice() {
                 ids.push(*id);
             }
@@ -162,7 +175,7 @@ impl Rosters {
         ensures { result
             ≡ ((roster_in self.now tgid).dead == length (roster_in self.now tgid).ids) }
     {
-        match self.map.get(&tgid) {
+        match self.roster(tgid) {
             Some(roster) => roster.dead == roster.ids.len(),
             None => true,
         }
@@ -171,7 +184,7 @@ impl Rosters {
     pub(crate) fn has_live(&self, tgid: u32) -> bool
         ensures { result ≡ not ((roster_in self.now tgid).live == 0) }
     {
-        match self.map.get(&tgid) {
+        match self.roster(tgid) {
             Some(roster) => roster.live != 0,
             None => false,
         }
@@ -180,7 +193,7 @@ impl Rosters {
     pub(crate) fn has_traced(&self, tgid: u32) -> bool
         ensures { result ≡ not ((roster_in self.now tgid).traced == 0) }
     {
-        match self.map.get(&tgid) {
+        match self.roster(tgid) {
             Some(roster) => roster.traced != 0,
             None => false,
         }
@@ -189,7 +202,7 @@ impl Rosters {
     pub(crate) fn has_stop_mark(&self, tgid: u32) -> bool
         ensures { result ≡ not ((roster_in self.now tgid).marked == 0) }
     {
-        match self.map.get(&tgid) {
+        match self.roster(tgid) {
             Some(roster) => roster.marked != 0,
             None => false,
         }
@@ -205,13 +218,16 @@ impl Rosters {
             (roster_in self.old g) else roster_in self.old g)) }
         ensures err { OnErr result (self.new ≡ self.old) }
     {
-        if let Some(roster) = self.map.get_mut(&thread.group) {
-            roster.push(thread);
-            return Ok(());
+        match self.index.place(thread.group) {
+            Some(place) => self.list[place].push(thread),
+            None => {
+                let mut roster = Roster::new();
+                roster.push(thread);
+                self.list.reserve(1)?;
+                self.index.push(thread.group)?;
+                self.list.push_reserved(roster);
+            }
         }
-        let mut roster = Roster::new();
-        roster.push(thread);
-        self.map.insert(thread.group, roster)?;
         Ok(())
     }
 
@@ -224,11 +240,13 @@ impl Rosters {
             ≡ (if thread.now.group == g then unless_empty
             (without thread.now (roster_in self.old g)) else roster_in self.old g) }
     {
-        if let Some(roster) = self.map.get_mut(&thread.group) {
-            roster.remove(thread);
-            if roster.ids.is_empty() {
-                let _empty = self.map.swap_remove(&thread.group);
-            }
+        let Some(place) = self.index.place(thread.group) else {
+            return;
+        };
+        self.list[place].remove(thread);
+        if self.list[place].ids.is_empty() {
+            self.index.remove(place);
+            let _empty = self.list.remove(place);
         }
     }
 
@@ -239,10 +257,14 @@ impl Rosters {
             → roster_in self.new g
             ≡ (if tgid == g then unless_empty roster else roster_in self.old g) }
     {
+        let Some(place) = self.index.place(tgid) else {
+            return;
+        };
         if roster.ids.is_empty() {
-            let _empty = self.map.swap_remove(&tgid);
-        } else if let Some(former) = self.map.get_mut(&tgid) {
-            *former = roster;
+            self.index.remove(place);
+            let _empty = self.list.remove(place);
+        } else {
+            self.list[place] = roster;
         }
     }
 
@@ -256,8 +278,9 @@ impl Rosters {
             ≡ (if before.now.group == g then rewritten before.now after.now
             (roster_in self.old g) else roster_in self.old g) }
     {
-        if let Some(roster) = self.map.get_mut(&before.group) {
-            roster.rewrite(before, after);
-        }
+        let Some(place) = self.index.place(before.group) else {
+            return;
+        };
+        self.list[place].rewrite(before, after);
     }
 }

@@ -7,6 +7,7 @@ ghost use Rattle.tr_table.specs.Slots.{IsPending, standing};
 
 use crate::pending::Pending;
 use crate::table::Table;
+use crate::threads::Threads;
 use arrayvec::ArrayVec;
 use std::marker::Model;
 use tr_model::Target;
@@ -100,7 +101,7 @@ impl Table {
         ensures rows { IfSome result (λ r. RowsOf self.now.table tgid r) }
     {
         let _group = self.groups.find(tgid)?;
-        Some(rows_of(self.threads.as_slice(), &self.pending, tgid))
+        Some(rows_of(&self.threads, &self.pending, tgid))
     }
 }
 
@@ -132,17 +133,16 @@ fn runnable_word(thread: &Thread) -> u64
     }
 }
 
-fn rows_of(threads: &[Thread], pending: &Pending, tgid: u32) -> Rows
+fn rows_of(threads: &Threads, pending: &Pending, tgid: u32) -> Rows
     requires few { length (filter (in_group tgid) threads.now) ≤ 64 }
     requires kept { IsPending pending.now }
     ensures { IsRows threads.now (standing pending.now.slots.items) tgid result }
 {
     let mut rows = Rows::new(waiting_word(pending, Target::Group(tgid)));
-    for thread in threads {
-        if thread.group == tgid {
-            let own = waiting_word(pending, Target::Thread(thread.id));
-            rows.push(own, blocked_word(thread), runnable_word(thread));
-        }
+    for id in threads.ids_in(tgid) {
+        let thread = threads.find(*id).unwrap();
+        let own = waiting_word(pending, Target::Thread(thread.id));
+        rows.push(own, blocked_word(thread), runnable_word(thread));
     }
     rows
 }

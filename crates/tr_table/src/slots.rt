@@ -1,9 +1,10 @@
-ghost use Rattle.std.specs.Prelude.{◌≡◌, ◌<◌, IfNone, ◌≤◌, IfSome, None, ◌-◌, false, get_or, length, map, take, true, vec_capacity, vec_len};
+ghost use Rattle.std.specs.Prelude.{◌≡◌, ◌<◌, IfNone, IfOk, ◌≤◌, IfSome, None, ◌-◌, false, get_or, length, map, take, true, vec_capacity, vec_len};
 ghost use Rattle.tr_model.specs.Journals.{IsSorted};
 ghost use Rattle.tr_model.specs.Moves.{instance_in, retarget};
 ghost use Rattle.tr_table.specs.Slots.{IsTrimmed, all_in, reaimed, standing};
 ghost use Rattle.tr_table.specs.declared.slots.Slot.{Slot};
 
+use std::alloc::{AllocError, Global};
 use tr_model::{Target, Waiting};
 
 /// Where an accepted instance stands. It keeps its number when it waits no more.
@@ -86,4 +87,21 @@ fn aimed(from: u32, to: u32, target: Target) -> Target
         Target::Thread(id) if id == from => Target::Thread(to),
         _ => target,
     }
+}
+
+/// What still waits, in order of acceptance. The count is that of the places to make for it.
+pub(crate) fn list_standing(
+    slots: &[Slot],
+    count: usize,
+    alloc: Global,
+) -> Result<Vec<Waiting>, AllocError>
+    ensures { IfOk result (λ list. list.items ≡ standing slots.now) }
+{
+    let mut list = Vec::with_capacity(alloc, count)?;
+    for slot in slots {
+        if !slot.gone {
+            list.push(slot.waiting)?;
+        }
+    }
+    Ok(list)
 }

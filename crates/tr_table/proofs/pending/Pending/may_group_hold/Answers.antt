@@ -1,4 +1,4 @@
-use Rattle.std.proofs.Common.{◌≡◌, ◌≢◌, ◌∙◌, false, filter, length, rules, sym, ap}
+use Rattle.std.proofs.Common.{◌≡◌, ◌≢◌, ◌∙◌, false, filter, rules, sym, ap}
 use Rattle.std.specs.List.{list_any}
 use Rattle.tr_model.specs.Tables.{ids_of}
 use Rattle.tr_model.specs.declared.rows.Target.TheVariants as target

@@ -1,7 +1,6 @@
-use Rattle.std.proofs.Common.{◌≡◌, ◌||◌, ◌∙◌, Bool, ap, sym}
+use Rattle.std.proofs.Common.{◌||◌, ◌∙◌, ap, sym}
 use Rattle.std.specs.List.{list_any}
 use Rattle.tr_pending.specs.declared.instance.Instance.{Instance}
-use Rattle.tr_pending.specs.Waiting.{is_waiting}
 use Rattle.tr_table.specs.Changes.{flushes}
 use Rattle.tr_table.specs.declared.picked.Flush.{Flush}
 use Rattle.tr_table.proofs.Holding.{any_stop}

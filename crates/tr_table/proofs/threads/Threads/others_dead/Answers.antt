@@ -1,12 +1,9 @@
-use Rattle.std.proofs.Common.{◌∙◌, ◌==◌, ◌||◌, ◌≤◌, ℕ, List, Bool, Option, true, filter, ap}
+use Rattle.std.proofs.Common.{◌∙◌, ◌==◌, ◌||◌, ℕ, List, Bool, Option, true, ap}
 use Rattle.std.specs.List.{list_all}
 use Rattle.std.specs.Option.{option_map_or}
 use Rattle.tr_tracee.specs.declared.thread.Thread.{Thread}
 use Rattle.tr_tracee.specs.Lives.{is_dead}
-use Rattle.tr_tracee.specs.Threads.{in_group}
-use Rattle.tr_model.specs.Journals.{occurs}
-use Rattle.tr_model.specs.Tables.{ids_of, thread_in}
-use Rattle.tr_table.specs.Rosters.{RosterView}
+use Rattle.tr_model.specs.Tables.{thread_in}
 use Rattle.tr_table.proofs.ByIds.{all_found}
 use Rattle.tr_table.proofs.threads.Threads.others_dead.Goals as goal
 
@@ -15,6 +12,4 @@ returns c =
     let ts = c.args.self.now in
     let g = c.args.tgid in
     let q : Option Thread → Bool = λ o. option_map_or (λ (t : Thread). t.id == c.args.id || is_dead t.life) o true in
-    let once : (n : ℕ) → occurs n (ids_of ts) ≤ 1 = λ n. rw (← c.self.view_is, ← c.self.invariant.rostered.indexed) (c.self.invariant.rostered.once n) in
-    c.all_are_or_are_dead.ensures
-    ∙ (ap (λ (ns : List ℕ). list_all (λ n. q (thread_in ts n)) ns) (c.ids.ensures ∙ (ap (λ (r : RosterView). r.ids) (c.self.invariant.rostered.told g) ∙ ap (λ (us : List Thread). ids_of (filter (in_group g) us)) c.self.view_is)) ∙ all_found q g ts once)
+    c.all_are_or_are_dead.ensures ∙ (ap (λ (ns : List ℕ). list_all (λ n. q (thread_in ts n)) ns) c.ids_in.ensures.ids ∙ all_found q g ts c.ids_in.ensures.once)

@@ -1,0 +1,28 @@
+use Rattle.std.proofs.Common.{◌≡◌, ◌==◌, ◌∙◌, ℕ, List, arith, ap, if◌then◌else◌, length}
+use Rattle.tr_table.specs.Rosters.{RosterView, no_one, rewritten, roster_in}
+use Rattle.tr_table.proofs.RosterLists.{at_itself, is_absent, is_found, is_written}
+use Rattle.tr_table.proofs.roster_list.Rosters.rewrite.Goals as goal
+
+pub returns-in_default : goal.returns-in_default
+returns-in_default c =
+    let none : roster_in c.args.self.now c.args.before.now.group ≡ no_one = is_absent c.args.before.now.group c.self.inside.index c.self.inside.list.items c.args.self.now c.place.result c.self.invariant c.self.view_is c.place.ensures.at c.in_default.is in
+    absurd (omega (arith, c.requires.there, ap (λ (r : RosterView). length r.ids) none))
+
+pub rewrite-requires-clause-small : goal.rewrite-requires-clause-small
+rewrite-requires-clause-small c =
+    let its : c.index_mut.result.now ≡ roster_in c.args.self.now c.args.before.now.group = c.index_mut.ensures.value ∙ is_found c.args.before.now.group c.self.inside.index c.self.inside.list.items c.args.self.now c.place.result c.self.invariant c.self.view_is c.place.ensures.at c.in-Some.place c.index_mut.result.now c.in-Some.is in
+    rw its c.requires.small
+
+pub rewrite-requires-clause-counts : goal.rewrite-requires-clause-counts
+rewrite-requires-clause-counts c =
+    let its : c.index_mut.result.now ≡ roster_in c.args.self.now c.args.before.now.group = c.index_mut.ensures.value ∙ is_found c.args.before.now.group c.self.inside.index c.self.inside.list.items c.args.self.now c.place.result c.self.invariant c.self.view_is c.place.ensures.at c.in-Some.place c.index_mut.result.now c.in-Some.is in
+    rw its c.requires.counts
+
+pub returns : goal.returns
+returns c = λ h.
+    let t = c.args.before.now in
+    let u = c.args.after.now in
+    let v : List (ℕ × RosterView) = c.args.self.now in
+    let its : c.index_mut.result.now ≡ roster_in v t.group = c.index_mut.ensures.value ∙ is_found t.group c.self.inside.index c.self.inside.list.items c.args.self.now c.place.result c.self.invariant c.self.view_is c.place.ensures.at c.in-Some.place c.index_mut.result.now c.in-Some.is in
+    is_written t.group c.self.inside.index c.self.inside.list.items c.args.self.now c.place.result c.self.invariant c.self.view_is c.place.ensures.at c.in-Some.place h c.rewrite.new.self c.in-Some.is
+    ∙ (ap (λ (r : RosterView). if t.group == h then r else roster_in v h) (c.rewrite.ensures ∙ ap (rewritten t u) its) ∙ at_itself t.group h (rewritten t u) v)
