@@ -1,5 +1,6 @@
--- Where the table has no death and no note for the starter, the starter is told nothing.
+-- Where the table has no death and shows no note, the starter is told nothing.
 use Rattle.std.proofs.Common.{◌≡◌, ◌==◌, ◌&&◌, ◌||◌, ◌++◌, ◌∙◌, ℕ, List, [], ◌∷◌, Bool, true, false, not, Option, Some, None, cond, if◌then◌else◌, filter, flat_map, is_some, ap, refl, sym}
+use Rattle.std.proofs.Math.Bool.{and-false}
 use Rattle.std.specs.List.{list_any}
 use Rattle.tr_wait.specs.declared.waits.WaitFlags.{WaitFlags}
 use Rattle.tr_tracee.specs.declared.thread.Report.{Report}
@@ -73,12 +74,13 @@ no_noter p (g ∷ gs) e n = go (p g) (is_some g.note) refl e (λ h. no_noter p g
 
 -- neither
 
-no_report : (T : Table) (flags : WaitFlags) (g : Group) → list_any is_untraced_death T.threads ≡ false → note_wanted flags g.note ≡ false → ready_of_group T flags g ≡ []
-no_report T flags g e k = ap (λ ns. ns ++ (if has_traced T g.tgid then [] else note_number flags g.note)) (no_number T.threads e g.tgid) ∙ go (has_traced T g.tgid)
+no_report : (T : Table) (flags : WaitFlags) (g : Group) → list_any is_untraced_death T.threads ≡ false → (not (has_traced T g.tgid) && note_wanted flags g.note) ≡ false → ready_of_group T flags g ≡ []
+no_report T flags g e k = ap (λ ns. ns ++ (if has_traced T g.tgid then [] else note_number flags g.note)) (no_number T.threads e g.tgid) ∙ go (has_traced T g.tgid) (note_wanted flags g.note) k
   where
-    go : (b : Bool) → (if b then [] else note_number flags g.note) ≡ []
-    go true = refl
-    go false = ap (λ c. if c then report_number g.note else []) k
+    go : (b c : Bool) → (not b && c) ≡ false → (if b then [] else (if c then report_number g.note else [])) ≡ []
+    go true c k = refl
+    go false true k = cc
+    go false false k = refl
 
 pub no_reports : (T : Table) (flags : WaitFlags) → list_any is_untraced_death T.threads ≡ false → (p : Group → Bool) (gs : List Group) → list_any (λ g. is_some g.note) gs ≡ false → flat_map (ready_of_group T flags) (filter p gs) ≡ []
 no_reports T flags d p [] e = refl
@@ -92,16 +94,9 @@ no_reports T flags d p (g ∷ gs) e = go (p g) (is_some g.note) refl e (no_repor
       where
         never : true ≡ false → ⊥
         never q = cc
-    go true false k h r = ap (λ ns. ns ++ rest) (no_report T flags g d (unwanted flags g.note k)) ∙ r h
+    go true false k h r = ap (λ ns. ns ++ rest) (no_report T flags g d (ap (λ c. not (has_traced T g.tgid) && c) (unwanted flags g.note k) ∙ and-false (not (has_traced T g.tgid)))) ∙ r h
     go false false k h r = r h
 
-pub no_report_if : (b : Bool) (T : Table) (flags : WaitFlags) (g : Group) → list_any is_untraced_death T.threads ≡ false → note_wanted flags g.note ≡ false → None ≡ first_number (if b then ready_of_group T flags g else [])
+pub no_report_if : (b : Bool) (T : Table) (flags : WaitFlags) (g : Group) → list_any is_untraced_death T.threads ≡ false → (not (has_traced T g.tgid) && note_wanted flags g.note) ≡ false → None ≡ first_number (if b then ready_of_group T flags g else [])
 no_report_if true T flags g e k = ap first_number (sym (no_report T flags g e k))
 no_report_if false T flags g e k = refl
-
-pub neither : (a b : Bool) → (a || b) ≡ false → (a ≡ false) × (b ≡ false)
-neither true b e = absurd (never e)
-  where
-    never : true ≡ false → ⊥
-    never q = cc
-neither false b e = (refl, e)

@@ -141,7 +141,7 @@ fn ready_of_led(table: &Table, which: Which, flags: WaitFlags, group: &Group) ->
         then ready_of_group table.now.table flags group.now
         else []) }
 {
-    if !may_tell(table, is_note_wanted(flags, &group.note)) {
+    if !may_tell(table, is_note_shown(table, flags, group)) {
         return None;
     }
     let leader = table.find(group.tgid);

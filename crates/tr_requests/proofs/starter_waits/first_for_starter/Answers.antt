@@ -1,4 +1,5 @@
 use Rattle.std.proofs.Common.{◌||◌, ◌&&◌, ◌∙◌, Bool, List, flat_map, is_some, ap, sym}
+use Rattle.std.proofs.lemmas.Bool.{or_parts}
 use Rattle.std.specs.List.{list_any}
 use Rattle.tr_wait.specs.Words.{asks_for}
 use Rattle.tr_model.specs.declared.rows.Group.{Group}
@@ -7,13 +8,13 @@ use Rattle.tr_model.specs.Tables.{thread_of}
 use Rattle.tr_table.specs.Waits.{is_untraced_death}
 use Rattle.tr_requests.specs.Private.{first_number, led_among}
 use Rattle.tr_requests.proofs.Firsts.{filter_twice}
-use Rattle.tr_requests.proofs.Untold.{neither, no_reports}
+use Rattle.tr_requests.proofs.Untold.{no_reports}
 use Rattle.tr_requests.proofs.starter_waits.first_for_starter.Goals as goal
 
 pub returns-then-not-may_tell : goal.returns-then-not-may_tell
 returns-then-not-may_tell c =
     let T = c.args.table.now.table in
-    let quiet = neither _ _ (ap (λ (b : Bool). list_any is_untraced_death T.threads || b) (sym c.has_notes.ensures) ∙ (sym c.may_tell.ensures ∙ c.if-not-may_tell.true)) in
+    let quiet = or_parts _ _ (ap (λ (b : Bool). list_any is_untraced_death T.threads || b) (sym c.has_notes.ensures) ∙ (sym c.may_tell.ensures ∙ c.if-not-may_tell.true)) in
     sym (ap first_number (no_reports T c.args.flags quiet.0 (λ (g : Group). asks_for c.args.which g.tgid && is_some (thread_of T g.tgid)) T.groups quiet.1))
 
 pub returns : goal.returns
