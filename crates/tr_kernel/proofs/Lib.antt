@@ -1,3 +1,4 @@
+pub mod Acts
 pub mod Answered
 pub mod Begun
 pub mod Transfers

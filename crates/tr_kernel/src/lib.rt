@@ -1,6 +1,7 @@
 //! The kernel: a table, and the journal that replays to it.
 #![tactic(auto)]
 
+mod acting;
 mod answers;
 mod entries;
 mod events;
@@ -16,5 +17,6 @@ mod notes;
 mod replies;
 mod restarts;
 
+pub use acting::act;
 pub use answers::{Answer, Receipt};
 pub use kernels::{Kernel, StartFault};
