@@ -1,5 +1,7 @@
 pub mod Follows
+pub mod Keys
 pub mod Private
+pub mod Rests
 pub mod Runs
 pub mod Scripts
 pub mod Settled

@@ -6,6 +6,7 @@ mod calls;
 mod ports;
 mod receipts;
 mod runs;
+mod sameness;
 mod scripts;
 mod seat_ports;
 mod settling;
