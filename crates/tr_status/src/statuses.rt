@@ -14,8 +14,8 @@ use tr_table::Table;
 use tr_text::TextBuffer;
 use tr_tracee::Thread;
 
-/// Room for a status text, which has at most 342 bytes.
-type StatusBuffer = TextBuffer<384>;
+/// Room for a status text, which has at most 342 bytes, and for what comes before it.
+pub type StatusBuffer = TextBuffer<384>;
 
 /// Why a status wasn't written.
 #[derive(Clone, Copy, Debug, PartialEq, Eq)]
@@ -59,14 +59,15 @@ pub fn write_thread<K: Sink>(table: &Table, thread: &Thread, sink: &mut K) -> Re
         (status_text table.now.table thread.now) result }
 {
     let mut text = StatusBuffer::new();
-    compose_status(&mut text, table, thread);
+    prepend_status(&mut text, table, thread);
     put_all(sink, text.as_bytes())
 }
 
 /// Puts the status text of a thread of the table before a text.
-fn compose_status(text: &mut StatusBuffer, table: &Table, thread: &Thread)
+pub fn prepend_status(text: &mut StatusBuffer, table: &Table, thread: &Thread)
     requires { 342 ≤ text.old.room }
-    ensures { text.new.text ≡ status_text table.now.table thread.now ++ text.old.text }
+    ensures text { text.new.text ≡ status_text table.now.table thread.now ++ text.old.text }
+    ensures room { text.old.room ≤ text.new.room + 342 }
 {
     compose_masks(text, masks_of(table, thread));
     compose_front(
@@ -121,7 +122,8 @@ fn compose_front(text: &mut StatusBuffer, front: &Front<'_>)
     requires room { 216 ≤ text.old.room }
     requires name { length front.now.name.now ≤ 15 }
     requires state { length front.now.state.now ≤ 16 }
-    ensures { text.new.text ≡ before (front_pieces front.now) text.old.text }
+    ensures text { text.new.text ≡ before (front_pieces front.now) text.old.text }
+    ensures room { text.old.room ≤ text.new.room + 216 }
 {
     text.prepend_number(u64::from(front.limit));
     text.prepend(b"/");
