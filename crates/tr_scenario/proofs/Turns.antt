@@ -20,11 +20,12 @@ use Rattle.tr_scenario.specs.Kernels.{Answers, Makes, lacks_memory, so_far}
 use Rattle.tr_scenario.specs.Private.{AreLow, IsLow}
 use Rattle.tr_status.specs.Writing.{IsFront}
 use Rattle.tr_scenario.specs.declared.faults.ScenarioFault.{ScenarioFault}
-use Rattle.tr_scenario.specs.Printing.{IsHalt, Prints}
+use Rattle.tr_scenario.specs.declared.faults.ScenarioFault.TheVariants as fault
+use Rattle.tr_scenario.specs.Printing.{IsHalt}
 use Rattle.tr_scenario.specs.Rounds.{Played, all_rounds, most_turns, player_after, player_lines, player_of, round, rounds, rounds_text, tallied, turn, turn_with}
 use Rattle.tr_scenario.specs.RunTexts.{call_of, calls_text, state_after}
-use Rattle.tr_scenario.proofs.Halts.{halts_in_front, prints_after}
-use Rattle.tr_scenario.proofs.Left.{no_later, no_text}
+use Rattle.tr_scenario.proofs.Filled.{fills_pushed, halts_first, halts_unpushed}
+use Rattle.tr_scenario.proofs.Left.{no_later}
 
 -- A turn
 
@@ -50,11 +51,11 @@ tallied_is_counted t (Refused why) =
 pub turn_at_end : (s : runs.State) (p : Player) → next p.calls ≡ None → turn s p ≡ record { calls = []; players = p ∷ [] }
 turn_at_end s p h = ap (turn_with s p) h
 
-pub fills_nothing : (k : State) (p : Player) (taken kept : List ℕ) (failures : ℕ) → next p.calls ≡ None →
-    (taken ++ kept ≡ taken ++ (kept ++ calls_text (so_far k) (turn (so_far k) p).calls)) × (length kept ≤ length (kept ++ calls_text (so_far k) (turn (so_far k) p).calls)) × (failures ≡ failures)
-fills_nothing k p taken kept failures h =
+pub fills_nothing : (tell : runs.State → runs.Call → List ℕ) (k : State) (p : Player) (taken kept : List ℕ) (failures : ℕ) → next p.calls ≡ None →
+    (taken ++ kept ≡ taken ++ (kept ++ calls_text tell (so_far k) (turn (so_far k) p).calls)) × (length kept ≤ length (kept ++ calls_text tell (so_far k) (turn (so_far k) p).calls)) × (failures ≡ failures)
+fills_nothing tell k p taken kept failures h =
     let none : (turn (so_far k) p).calls ≡ [] = ap (λ (x : Played). x.calls) (turn_at_end (so_far k) p h) in
-    rw (none, no_text k, append-nil kept) (refl, omega arith, refl)
+    rw (none, append-nil kept) (refl, omega arith, refl)
 
 pub makes_nothing : (k : State) (p : Player) → next p.calls ≡ None → Makes k k (turn (so_far k) p).calls
 makes_nothing k p h =
@@ -233,19 +234,25 @@ unfolding most_turns
 most_are = refl
 
 -- a halt before the lines of the workers
-pub rounds_halted : (old new : List ℕ) (f f_new : ℕ) (e : ScenarioFault) (s : runs.State) (turns : ℕ) (ps : List Player) (scripts : List Script) → turns ≡ most_turns → ps ≡ map player_of scripts →
-    IsFront old new (calls_text s (rounds turns s ps).calls) × IsHalt e f f_new → IsFront old new (rounds_text s (all_rounds s scripts)) × IsHalt e f f_new
-rounds_halted old new f f_new e s turns ps scripts most are h =
+pub rounds_halted : (tell : runs.State → runs.Call → List ℕ) (old new page : List ℕ) (f f_new : ℕ) (e : ScenarioFault) (s : runs.State) (turns : ℕ) (ps : List Player) (scripts : List Script) → turns ≡ most_turns → ps ≡ map player_of scripts →
+    IsFront old new (page ++ calls_text tell s (rounds turns s ps).calls) × IsHalt e f f_new → IsFront old new (page ++ rounds_text tell s (all_rounds s scripts)) × IsHalt e f f_new
+rounds_halted tell old new page f f_new e s turns ps scripts most are h =
     let x = all_rounds s scripts in
-    halts_in_front old new (calls_text s x.calls) (player_lines x.players) e f f_new (rw (most, are) at h)
+    halts_first old new page (calls_text tell s x.calls) (player_lines x.players) e f f_new (rw (most, are) at h)
 
-pub rounds_printed : {K X : Type 0} (taken : K → List ℕ) (failures : K → ℕ) (old mid new : K) (s : runs.State) (turns : ℕ) (ps after : List Player) (scripts : List Script) (r : Result X ScenarioFault) →
-    turns ≡ most_turns → ps ≡ map player_of scripts → (taken mid ≡ taken old ++ calls_text s (rounds turns s ps).calls) × (failures mid ≡ failures old) → after ≡ (rounds turns s ps).players →
-    Prints taken failures mid new (player_lines after) r → Prints taken failures old new (rounds_text s (all_rounds s scripts)) r
-rounds_printed taken failures old mid new s turns ps after scripts r most are went players h =
-    let x = all_rounds s scripts in
-    let calls = rw (most, are) at went in
-    prints_after taken failures old mid new (calls_text s x.calls) (player_lines x.players) r calls.0 calls.1 (rw (players, most, are) at h)
+module _ {K : Type 0} (tell : runs.State → runs.Call → List ℕ) (taken : K → List ℕ) (failures : K → ℕ) (old mid : K) (page page_mid : List ℕ) (s : runs.State) (turns : ℕ) (ps : List Player) (scripts : List Script) (most : turns ≡ most_turns) (are : ps ≡ map player_of scripts)
+    (went : (taken mid ++ page_mid ≡ taken old ++ (page ++ calls_text tell s (rounds turns s ps).calls)) × (length page_mid ≤ length (page ++ calls_text tell s (rounds turns s ps).calls)) × (failures mid ≡ failures old)) where
+  -- want of memory for them
+  pub rounds_unpushed : IsFront (taken old) (taken mid) (page ++ rounds_text tell s (all_rounds s scripts)) × IsHalt fault.NoMemory (failures old) (failures mid)
+  rounds_unpushed =
+      let x = all_rounds s scripts in
+      halts_unpushed taken failures old mid page page_mid (calls_text tell s x.calls) (player_lines x.players) (rw (most, are) at went)
+
+  pub rounds_pushed : (after : List Player) (page_new : List ℕ) → after ≡ (rounds turns s ps).players → page_new ≡ page_mid ++ player_lines after →
+      (taken mid ++ page_new ≡ taken old ++ (page ++ rounds_text tell s (all_rounds s scripts))) × (length page_new ≤ length (page ++ rounds_text tell s (all_rounds s scripts))) × (failures mid ≡ failures old)
+  rounds_pushed after page_new players pushed =
+      let x = all_rounds s scripts in
+      fills_pushed taken failures old mid page page_mid page_new (calls_text tell s x.calls) (player_lines x.players) (rw (most, are) at went) (rw (players, most, are) at pushed)
 
 pub rounds_made : {X : Type 0} (k k_next : State) (turns : ℕ) (ps : List Player) (scripts : List Script) (r : Result X ScenarioFault) → turns ≡ most_turns → ps ≡ map player_of scripts →
     Makes k k_next (rounds turns (so_far k) ps).calls → OnOk r (Makes k k_next (all_rounds (so_far k) scripts).calls)

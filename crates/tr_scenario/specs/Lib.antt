@@ -1,4 +1,5 @@
 pub mod Events
+pub mod Faults
 pub mod Fields
 pub mod Groups
 pub mod Kernels

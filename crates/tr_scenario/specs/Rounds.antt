@@ -100,6 +100,6 @@ abbrev pub player_lines : List Player → List ℕ
 player_lines [] = []
 player_lines (p ∷ ps) = worker_line p.actor (final_tally p) ++ player_lines ps
 
--- the lines of the calls, and of the workers
-abbrev pub rounds_text : State → Played → List ℕ
-rounds_text s x = calls_text s x.calls ++ player_lines x.players
+-- what is told of the calls, and the lines of the workers
+abbrev pub rounds_text : (State → Call → List ℕ) → State → Played → List ℕ
+rounds_text tell s x = calls_text tell s x.calls ++ player_lines x.players

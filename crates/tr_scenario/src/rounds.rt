@@ -1,16 +1,17 @@
-ghost use Rattle.std.specs.Prelude.{◌≡◌, ◌∷◌, ◌++◌, ◌<◌, ◌+◌, ◌-◌, ◌^◌, ℕ, [], IfOk, OnOk, is_none, map, string_bytes};
+ghost use Rattle.std.specs.Prelude.{◌≡◌, ◌∷◌, ◌++◌, ◌<◌, ◌+◌, ◌-◌, ◌^◌, ℕ, [], IfOk, OnOk, is_none, map};
 ghost use Rattle.std.specs.List.{list_all};
 ghost use Rattle.tr_workers.specs.Scripts.{next};
 ghost use Rattle.tr_scenario.specs.Kernels.{Makes, so_far};
-ghost use Rattle.tr_scenario.specs.Printing.{Fills, Prints};
+ghost use Rattle.tr_scenario.specs.Printing.{Fills};
 ghost use Rattle.tr_scenario.specs.Private.{AreLow, IsLow};
 ghost use Rattle.tr_scenario.specs.Rounds.{all_rounds, final_tally, player_lines, player_of, round, rounds, rounds_text, turn};
 ghost use Rattle.tr_scenario.specs.RunTexts.{calls_text};
 
 use crate::faults::ScenarioFault;
 use crate::lines::push_worker;
-use crate::printing::print_kept;
+use crate::pages::Page;
 use crate::runs::fill_call;
+use crate::telling::Telling;
 use std::alloc::{AllocError, Global};
 use tr_kernel::Kernel;
 use tr_status::Sink;
@@ -27,23 +28,25 @@ struct Player<'a> {
     tally: Tally,
 }
 
-/// Makes the calls of the scripts in rounds, and prints the lines of the calls and of the workers. Room for all scripts
+/// Makes the calls of the scripts in rounds, and prints what is told of the calls, and the lines of the workers. Room for all scripts
 /// comes before the first call.
-pub(crate) fn print_rounds<W: Sink>(
+pub(crate) fn fill_workers<T: Telling, W: Sink>(
     alloc: Global,
     kernel: &mut Kernel,
     scripts: &[Script],
+    page: &mut Page,
     writer: &mut W,
 ) -> Result<(), ScenarioFault>
     requires { W.failures writer.old < 2 ^ 64 - 1 }
-    ensures prints { Prints W.taken W.failures writer.old writer.new
-        (rounds_text (so_far kernel.old) (all_rounds (so_far kernel.old) scripts.now)) result }
+    ensures prints { Fills W.taken W.failures writer.old writer.new page.old page.new
+        (rounds_text T.text (so_far kernel.old) (all_rounds (so_far kernel.old) scripts.now)) result }
     ensures makes { OnOk result
         (Makes kernel.old kernel.new (all_rounds (so_far kernel.old) scripts.now).calls) }
 {
     let mut players = players_of(alloc, scripts)?;
-    print_turns(alloc, kernel, &mut players, MOST_TURNS, writer)?;
-    print_players(alloc, &players, writer)
+    fill_rounds::<T, W>(kernel, &mut players, MOST_TURNS, page, writer)?;
+    push_players(page, &players)?;
+    Ok(())
 }
 
 fn players_of<'a>(alloc: Global, scripts: &'a [Script]) -> Result<Vec<Player<'a>>, AllocError>
@@ -60,42 +63,18 @@ fn players_of<'a>(alloc: Global, scripts: &'a [Script]) -> Result<Vec<Player<'a>
     Ok(players)
 }
 
-/// Makes so many rounds, and prints the lines of the calls.
-fn print_turns<W: Sink>(
-    alloc: Global,
-    kernel: &mut Kernel,
-    players: &mut [Player<'_>],
-    turns: u32,
-    writer: &mut W,
-) -> Result<(), ScenarioFault>
-    requires room { W.failures writer.old < 2 ^ 64 - 1 }
-    requires low { AreLow 0 players.old }
-    ensures prints { Prints W.taken W.failures writer.old writer.new
-        (calls_text (so_far kernel.old)
-        (rounds turns (so_far kernel.old) players.old).calls) result }
-    ensures makes { OnOk result
-        (Makes kernel.old kernel.new (rounds turns (so_far kernel.old) players.old).calls) }
-    ensures players { OnOk result
-        (players.new ≡ (rounds turns (so_far kernel.old) players.old).players) }
-{
-    let mut kept = String::new(alloc);
-    fill_rounds(kernel, players, turns, &mut kept, writer)?;
-    print_kept(&mut kept, writer)
-}
-
 /// Makes so many rounds, or up to the first in which no player has a call left: then none comes later.
-fn fill_rounds<W: Sink>(
+fn fill_rounds<T: Telling, W: Sink>(
     kernel: &mut Kernel,
     players: &mut [Player<'_>],
     turns: u32,
-    kept: &mut String,
+    page: &mut Page,
     writer: &mut W,
 ) -> Result<(), ScenarioFault>
     requires room { W.failures writer.old < 2 ^ 64 - 1 }
     requires low { AreLow 0 players.old }
-    ensures prints { Fills W.taken W.failures writer.old writer.new (string_bytes kept.old)
-        (string_bytes kept.new)
-        (calls_text (so_far kernel.old)
+    ensures prints { Fills W.taken W.failures writer.old writer.new page.old page.new
+        (calls_text T.text (so_far kernel.old)
         (rounds turns (so_far kernel.old) players.old).calls) result }
     ensures makes { OnOk result
         (Makes kernel.old kernel.new (rounds turns (so_far kernel.old) players.old).calls) }
@@ -106,7 +85,7 @@ fn fill_rounds<W: Sink>(
         if are_at_end(players) {
             return Ok(());
         }
-        fill_round(kernel, players, kept, writer)?;
+        fill_round::<T, W>(kernel, players, page, writer)?;
     }
     Ok(())
 }
@@ -118,40 +97,38 @@ fn are_at_end(players: &[Player<'_>]) -> bool
 }
 
 /// Gives each player a turn.
-fn fill_round<W: Sink>(
+fn fill_round<T: Telling, W: Sink>(
     kernel: &mut Kernel,
     players: &mut [Player<'_>],
-    kept: &mut String,
+    page: &mut Page,
     writer: &mut W,
 ) -> Result<(), ScenarioFault>
     requires room { W.failures writer.old < 2 ^ 64 - 1 }
     requires low { AreLow (2 ^ 32 - 1) players.old }
-    ensures prints { Fills W.taken W.failures writer.old writer.new (string_bytes kept.old)
-        (string_bytes kept.new)
-        (calls_text (so_far kernel.old) (round (so_far kernel.old) players.old).calls) result }
+    ensures prints { Fills W.taken W.failures writer.old writer.new page.old page.new
+        (calls_text T.text (so_far kernel.old) (round (so_far kernel.old) players.old).calls) result }
     ensures makes { OnOk result
         (Makes kernel.old kernel.new (round (so_far kernel.old) players.old).calls) }
     ensures players { OnOk result (players.new ≡ (round (so_far kernel.old) players.old).players) }
     ensures low { OnOk result ((n : ℕ) → AreLow n players.old → AreLow (n + 1) players.new) }
 {
     for player in players.iter_mut() {
-        fill_turn(kernel, player, kept, writer)?;
+        fill_turn::<T, W>(kernel, player, page, writer)?;
     }
     Ok(())
 }
 
-/// Makes a player's next call, if its script has one left, and prints its line.
-fn fill_turn<W: Sink>(
+/// Makes a player's next call, if its script has one left, and prints what is told of it.
+fn fill_turn<T: Telling, W: Sink>(
     kernel: &mut Kernel,
     player: &mut Player<'_>,
-    kept: &mut String,
+    page: &mut Page,
     writer: &mut W,
 ) -> Result<(), ScenarioFault>
     requires room { W.failures writer.old < 2 ^ 64 - 1 }
     requires low { IsLow (2 ^ 32 - 1) player.old }
-    ensures prints { Fills W.taken W.failures writer.old writer.new (string_bytes kept.old)
-        (string_bytes kept.new)
-        (calls_text (so_far kernel.old) (turn (so_far kernel.old) player.old).calls) result }
+    ensures prints { Fills W.taken W.failures writer.old writer.new page.old page.new
+        (calls_text T.text (so_far kernel.old) (turn (so_far kernel.old) player.old).calls) result }
     ensures makes { OnOk result
         (Makes kernel.old kernel.new (turn (so_far kernel.old) player.old).calls) }
     ensures player { OnOk result ((turn (so_far kernel.old) player.old).players ≡ player.new ∷ []) }
@@ -160,7 +137,7 @@ fn fill_turn<W: Sink>(
     let Some(event) = player.calls.next() else {
         return Ok(());
     };
-    let answer = fill_call(kernel, player.actor, &event, kept, writer)?;
+    let answer = fill_call::<T, W>(kernel, player.actor, &event, page, writer)?;
     player.tally.count(&answer)?;
     player.calls.tell(&answer);
     Ok(())
@@ -168,26 +145,12 @@ fn fill_turn<W: Sink>(
 
 // The lines
 
-/// Prints the lines of the workers.
-fn print_players<W: Sink>(
-    alloc: Global,
-    players: &[Player<'_>],
-    writer: &mut W,
-) -> Result<(), ScenarioFault>
-    requires { W.failures writer.old < 2 ^ 64 - 1 }
-    ensures { Prints W.taken W.failures writer.old writer.new (player_lines players.now) result }
-{
-    let mut lines = String::new(alloc);
-    push_players(&mut lines, players)?;
-    print_kept(&mut lines, writer)
-}
-
-fn push_players(text: &mut String, players: &[Player<'_>]) -> Result<(), AllocError>
-    ensures { OnOk result
-        (string_bytes text.new ≡ string_bytes text.old ++ player_lines players.now) }
+/// Appends the lines of the workers.
+fn push_players(page: &mut Page, players: &[Player<'_>]) -> Result<(), AllocError>
+    ensures { OnOk result (page.new ≡ page.old ++ player_lines players.now) }
 {
     for player in players {
-        push_worker(text, player.actor, &final_tally(player))?;
+        push_worker(page, player.actor, &final_tally(player))?;
     }
     Ok(())
 }

@@ -8,7 +8,7 @@ use Rattle.tr_scenario.proofs.Turns.{all_played, low_at, none_played, one_played
 use Rattle.tr_scenario.proofs.rounds.fill_round.Goals as goal
 
 pub loop-player-init : goal.loop-player-init
-loop-player-init g c = record { left = left_at_start _ _ _ _ _; round = none_played _ _ }
+loop-player-init g c = record { left = left_at_start _ _ _ _ _ _; round = none_played _ _ }
 
 pub fill_turn-requires-clause-low : goal.fill_turn-requires-clause-low
 fill_turn-requires-clause-low g c =
@@ -31,7 +31,7 @@ returns-in_err-fill_turn-clause-prints g c =
     let one = turn s (get_or all i d) in
     let left = rw (rest_calls s all i d h) at c.loop-player.invariant.left in
     let halted = rw (player_at _ _ all c.loop-player.players i d r h) at c.in_err-fill_turn.ensures.prints in
-    rw (p.1, p.2) (left_halted _ _ _ one.calls (round (state_after s one.calls) (drop (i + 1) all)).calls _ _ _ _ _ _ _ _ _ left halted)
+    rw (p.1, p.2) (left_halted _ _ _ _ one.calls (round (state_after s one.calls) (drop (i + 1) all)).calls _ _ _ _ _ _ _ _ _ left halted)
 
 pub loop-player-preserved : goal.loop-player-preserved
 loop-player-preserved g c =
@@ -47,15 +47,15 @@ loop-player-preserved g c =
     let m = rw at at c.in_ok-fill_turn.ensures.makes in
     let left = rw (rest_made k k_next all i d h m) at c.loop-player.invariant.left in
     record {
-      left = left_next _ _ _ _ (turn (so_far k) (get_or all i d)).calls (round (so_far k_next) (drop (i + 1) all)).calls _ _ _ _ _ _ _ _ _ left m p.0 p.1 p.2;
+      left = left_next _ _ _ _ _ (turn (so_far k) (get_or all i d)).calls (round (so_far k_next) (drop (i + 1) all)).calls _ _ _ _ _ _ _ _ _ left m p.0 p.1 p.2;
       round = one_played _ k k_next all c.loop-player.players i d c.fill_turn.new.player r h m (rw at at c.in_ok-fill_turn.ensures.player) (rw at at c.in_ok-fill_turn.ensures.low);
     }
 
 pub returns-clause-prints : goal.returns-clause-prints
-returns-clause-prints g c = left_at_end _ _ _ _ _ _ _ _ _ (rw (drop_of_length-le c.args.players.now c.loop-player-test.false) at c.loop-player.invariant.left)
+returns-clause-prints g c = left_at_end _ _ _ _ _ _ _ _ _ _ (rw (drop_of_length-le c.args.players.now c.loop-player-test.false) at c.loop-player.invariant.left)
 
 pub returns-clause-makes : goal.returns-clause-makes
-returns-clause-makes g c = made_at_end _ _ _ _ _ _ _ _ _ (rw (drop_of_length-le c.args.players.now c.loop-player-test.false) at c.loop-player.invariant.left)
+returns-clause-makes g c = made_at_end _ _ _ _ _ _ _ _ _ _ (rw (drop_of_length-le c.args.players.now c.loop-player-test.false) at c.loop-player.invariant.left)
 
 pub returns-clause-low : goal.returns-clause-low
 returns-clause-low g c = (all_played _ _ c.args.players.now c.loop-player.players c.loop-player.player-index c.loop-player.invariant.round c.loop-player-test.false).1

@@ -1,4 +1,4 @@
-use Rattle.std.proofs.Common.{◌++◌, drop, string_bytes}
+use Rattle.std.proofs.Common.{◌++◌, drop}
 use Rattle.tr_scenario.specs.Kernels.{so_far}
 use Rattle.tr_scenario.specs.Rounds.{round}
 use Rattle.tr_scenario.specs.RunTexts.{calls_text}
@@ -10,8 +10,8 @@ abbrev pub invariant-loop-player : goal.invariant-loop-player
 invariant-loop-player g l =
     let all = (round (so_far l.fn.kernel) l.fn.players).calls in
     let rest = (round (so_far l.kernel) (drop l.player-index l.fn.players)).calls in
-    let text = string_bytes l.fn.kept ++ calls_text (so_far l.fn.kernel) all in
+    let text = l.fn.page ++ calls_text g.T.Telling.text (so_far l.fn.kernel) all in
     record {
-      left : IsLeft l.fn.kernel all (g.W.Sink.taken l.fn.writer) text (g.W.Sink.failures l.fn.writer) l.kernel rest (g.W.Sink.taken l.writer) (string_bytes l.kept) (g.W.Sink.failures l.writer);
+      left : IsLeft g.T.Telling.text l.fn.kernel all (g.W.Sink.taken l.fn.writer) text (g.W.Sink.failures l.fn.writer) l.kernel rest (g.W.Sink.taken l.writer) l.page (g.W.Sink.failures l.writer);
       round : IsRound l.fn.kernel l.fn.players l.kernel l.players l.player-index;
     }

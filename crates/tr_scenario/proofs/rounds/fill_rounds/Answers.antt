@@ -10,12 +10,12 @@ use Rattle.tr_scenario.proofs.rounds.fill_rounds.Goals as goal
 pub returns-then-are_at_end-clause-prints : goal.returns-then-are_at_end-clause-prints
 returns-then-are_at_end-clause-prints g c =
     let none = rounds_at_end (c.args.turns - c.loop.counter) (so_far c.loop.kernel) c.loop.players (sym c.are_at_end.ensures ∙ c.if-are_at_end.true) in
-    left_at_end _ _ _ _ _ _ _ _ _ (rw none at c.loop.invariant.left)
+    left_at_end _ _ _ _ _ _ _ _ _ _ (rw none at c.loop.invariant.left)
 
 pub returns-then-are_at_end-clause-makes : goal.returns-then-are_at_end-clause-makes
 returns-then-are_at_end-clause-makes g c =
     let none = rounds_at_end (c.args.turns - c.loop.counter) (so_far c.loop.kernel) c.loop.players (sym c.are_at_end.ensures ∙ c.if-are_at_end.true) in
-    made_at_end _ _ _ _ _ _ _ _ _ (rw none at c.loop.invariant.left)
+    made_at_end _ _ _ _ _ _ _ _ _ _ (rw none at c.loop.invariant.left)
 
 pub returns-then-are_at_end-clause-players : goal.returns-then-are_at_end-clause-players
 returns-then-are_at_end-clause-players g c =
@@ -33,7 +33,7 @@ returns-in_err-fill_round-clause-prints g c =
     let s = so_far c.loop.kernel in
     let one = round s c.loop.players in
     let left = rw (rounds_from c.args.turns c.loop.counter s c.loop.players c.loop-test.true) at c.loop.invariant.left in
-    rw (p.1, p.2) (left_halted _ _ _ one.calls (rounds (c.args.turns - (c.loop.counter + 1)) (state_after s one.calls) one.players).calls _ _ _ _ _ _ _ _ _ left c.in_err-fill_round.ensures.prints)
+    rw (p.1, p.2) (left_halted _ _ _ _ one.calls (rounds (c.args.turns - (c.loop.counter + 1)) (state_after s one.calls) one.players).calls _ _ _ _ _ _ _ _ _ left c.in_err-fill_round.ensures.prints)
 
 pub loop-preserved : goal.loop-preserved
 loop-preserved g c =
@@ -45,7 +45,7 @@ loop-preserved g c =
     let left = rw (rounds_made_next c.args.turns c.loop.counter k k_next ps ps_next c.loop-test.true n) at c.loop.invariant.left in
     let p = c.in_ok-fill_round.ensures.prints in
     record {
-      left = left_next _ _ _ _ (round (so_far k) ps).calls (rounds (c.args.turns - (c.loop.counter + 1)) (so_far k_next) ps_next).calls _ _ _ _ _ _ _ _ _ left n.makes p.0 p.1 p.2;
+      left = left_next _ _ _ _ _ (round (so_far k) ps).calls (rounds (c.args.turns - (c.loop.counter + 1)) (so_far k_next) ps_next).calls _ _ _ _ _ _ _ _ _ left n.makes p.0 p.1 p.2;
       players = c.loop.invariant.players ∙ players_next c.args.turns c.loop.counter k k_next ps ps_next c.loop-test.true n;
       low = c.in_ok-fill_round.ensures.low c.loop.counter c.loop.invariant.low;
     }
@@ -53,12 +53,12 @@ loop-preserved g c =
 pub returns-clause-prints : goal.returns-clause-prints
 returns-clause-prints g c =
     let none = no_round_more c.args.turns c.loop.counter (so_far c.loop.kernel) c.loop.players c.loop-test.false in
-    left_at_end _ _ _ _ _ _ _ _ _ (rw none at c.loop.invariant.left)
+    left_at_end _ _ _ _ _ _ _ _ _ _ (rw none at c.loop.invariant.left)
 
 pub returns-clause-makes : goal.returns-clause-makes
 returns-clause-makes g c =
     let none = no_round_more c.args.turns c.loop.counter (so_far c.loop.kernel) c.loop.players c.loop-test.false in
-    made_at_end _ _ _ _ _ _ _ _ _ (rw none at c.loop.invariant.left)
+    made_at_end _ _ _ _ _ _ _ _ _ _ (rw none at c.loop.invariant.left)
 
 pub returns-clause-players : goal.returns-clause-players
 returns-clause-players g c =
