@@ -3,7 +3,7 @@ use Rattle.std.proofs.Common.{◌≡◌, ◌≢◌, ◌⊎◌, ◌∙◌, ◌<�
 use Rattle.std.proofs.lemmas.Fmt.{decimal_injective, digits_decimal}
 use Rattle.std.proofs.lemmas.List.Splits.{join_with_byte-slice_split, slice_split-cons_no, slice_split_first, slice_split_none}
 use Rattle.std.proofs.lemmas.List.Sums.{fails_before_first}
-use Rattle.std.proofs.lemmas.Bool.{ne_eqb}
+use Rattle.std.proofs.lemmas.Bool.{and_parts, ne_eqb}
 use Rattle.std.proofs.lemmas.Str.Pattern.{IsSplitOnceResult, split_once_first}
 use Rattle.std.specs.Borrow.{Bor}
 use Rattle.std.proofs.lemmas.Slice.Eq.{bytes_eq-Decides}
@@ -36,21 +36,13 @@ clone_words id small =
 
 -- Texts that fit it
 
-first : (a b : Bool) → (a && b) ≡ true → a ≡ true
-first true b h = refl
-first false b h = h
-
-second : (a b : Bool) → (a && b) ≡ true → b ≡ true
-second true b h = h
-second false b h = cc
-
 never : (a : Bool) → (a && false) ≡ true → ⊥
 never true h = cc
 never false h = cc
 
 last_word : (ws : List (List ℕ)) (d : List ℕ) → fit ws (d ∷ []) ≡ true → (w : List ℕ) × (ws ≡ w ∷ []) × (fits_word w d ≡ true)
 last_word [] d h = cc
-last_word (w ∷ []) d h = (w, refl, first (fits_word w d) true h)
+last_word (w ∷ []) d h = (w, refl, (and_parts (fits_word w d) true h).0)
 last_word (w ∷ v ∷ ws) d h = absurd (never (fits_word w d) h)
 
 any_or_same : (a b : Bool) → (a || b) ≡ true → a ≡ false → b ≡ true
@@ -83,8 +75,9 @@ each_clone e front w two here any = λ id small.
 pub second_names : (e front rest : List ℕ) (r : Option ℕ) → words e ≡ front ∷ words rest → ((n : ℕ) → n < 2 ^ 32 → rest ≡ decimal n → r ≡ Some n) → IsNamed (is_expected (Some e)) r
 second_names e front rest r parts named = λ id small h.
     let g = sym (fits_clone e (front ∷ words rest) id small parts) ∙ h in
-    let here = first (fits_word front (codes "cloned")) (fit (words rest) (decimal id ∷ [])) g in
-    let l = last_word (words rest) (decimal id) (second (fits_word front (codes "cloned")) (fit (words rest) (decimal id ∷ [])) g) in
+    let fitting = and_parts (fits_word front (codes "cloned")) (fit (words rest) (decimal id ∷ [])) g in
+    let here = fitting.0 in
+    let l = last_word (words rest) (decimal id) fitting.1 in
     by_last id small here l.0 l.1 l.2 (any_word l.0) refl
   where
     by_last : (id : ℕ) → id < 2 ^ 32 → fits_word front (codes "cloned") ≡ true → (w : List ℕ) → words rest ≡ w ∷ [] → fits_word w (decimal id) ≡ true → (b : Bool) → any_word w ≡ b → (r ≡ Some id) ⊎ FitsEachClone (is_expected (Some e))

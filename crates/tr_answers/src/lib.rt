@@ -5,7 +5,6 @@ mod comparing;
 mod expected;
 mod lines;
 mod records;
-mod shown;
 
 pub use comparing::compare;
 pub use expected::Expected;

@@ -1,56 +1,77 @@
-ghost use Rattle.std.specs.Prelude.{◌≡◌, ◌∷◌, ◌++◌, Ok, OnOk, map, string_bytes};
-ghost use Rattle.tr_answers.specs.Comparisons.{admitted, agreement_line, asked_by, assumed_line, difference_line, listed, quoted, step_text};
+ghost use Rattle.std.specs.Prelude.{◌≡◌, ◌≤◌, ◌+◌, ◌∷◌, ◌++◌, Ok, OnOk, codes, map};
+ghost use Rattle.tr_answers.specs.Comparisons.{admitted, agreement_line, answer_text, asked_by, assumed_line, difference_line, listed, quoted, step_text};
 ghost use Rattle.tr_scenario.specs.RunTexts.{call_of};
 
 use crate::expected::Expected;
 use crate::records::Answered;
-use crate::shown::ShownAnswer;
 use std::alloc::{AllocError, Global};
 use tr_kernel::Kernel;
 use tr_model::{Refusal, Reply};
 use tr_oracle::offered;
-use tr_scenario::{Step, event_name};
+use tr_scenario::{LineBuffer, Page, Step, prepend_call, prepend_reply, refusal_text};
 
-/// Appends which step it is, and its call.
-fn push_step(text: &mut String, place: usize, answered: &Answered) -> Result<(), AllocError>
-    ensures { OnOk result
-        (string_bytes text.new ≡ string_bytes text.old ++ step_text (asked_by place answered.now)) }
+/// Puts an answer before a text.
+pub(crate) fn prepend_answer(text: &mut LineBuffer, answer: &Result<Reply, Refusal>)
+    requires { 98 ≤ text.old.room }
+    ensures text { text.new.text ≡ answer_text answer.now ++ text.old.text }
+    ensures room { text.old.room ≤ text.new.room + 98 }
 {
-    let step = &answered.step;
-    let name = event_name(&step.event);
-    write!(text, "step {place}: `{} {name}`: ", step.actor)
+    match answer {
+        Ok(reply) => prepend_reply(text, reply),
+        Err(why) => text.prepend(refusal_text(*why).as_bytes()),
+    }
+}
+
+/// Puts before a text which step it is, and its call.
+fn prepend_step(text: &mut LineBuffer, place: usize, answered: &Answered)
+    requires { 64 ≤ text.old.room }
+    ensures { text.new.text ≡ step_text (asked_by place answered.now) ++ text.old.text }
+{
+    text.prepend(b"`: ");
+    prepend_call(text, answered.step.actor, &answered.step.event);
+    text.prepend(b": `");
+    text.prepend_number(place as u64);
+    text.prepend(b"step ");
 }
 
 /// Appends the line of an answer that was made.
 pub(crate) fn push_assumed(
-    text: &mut String,
+    page: &mut Page,
     place: usize,
     answered: &Answered,
     answer: &Result<Reply, Refusal>,
 ) -> Result<(), AllocError>
-    ensures { OnOk result (string_bytes text.new
-        ≡ string_bytes text.old ++ assumed_line (asked_by place answered.now) answer.now) }
+    ensures { OnOk result (page.new
+        ≡ page.old ++ assumed_line (asked_by place answered.now) answer.now) }
 {
-    push_step(text, place, answered)?;
-    writeln!(text, "assumed `{}`", ShownAnswer(answer))
+    let mut line = LineBuffer::new();
+    line.prepend(b"`\n");
+    prepend_answer(&mut line, answer);
+    line.prepend(b"assumed `");
+    prepend_step(&mut line, place, answered);
+    page.push(line.as_bytes())
 }
 
 /// Appends an answer between backquotes.
-fn push_quoted(text: &mut String, answer: &Result<Reply, Refusal>) -> Result<(), AllocError>
-    ensures { OnOk result (string_bytes text.new ≡ string_bytes text.old ++ quoted answer.now) }
+fn push_quoted(page: &mut Page, answer: &Result<Reply, Refusal>) -> Result<(), AllocError>
+    ensures { OnOk result (page.new ≡ page.old ++ quoted answer.now) }
 {
-    write!(text, "`{}`", ShownAnswer(answer))
+    let mut text = LineBuffer::new();
+    text.prepend(b"`");
+    prepend_answer(&mut text, answer);
+    text.prepend(b"`");
+    page.push(text.as_bytes())
 }
 
 /// Appends replies, with commas between.
-fn push_replies(text: &mut String, first: &Reply, others: &[Reply]) -> Result<(), AllocError>
-    ensures { OnOk result (string_bytes text.new
-        ≡ string_bytes text.old ++ listed (map (λ r. Ok r) (first.now ∷ others.now))) }
+fn push_replies(page: &mut Page, first: &Reply, others: &[Reply]) -> Result<(), AllocError>
+    ensures { OnOk result (page.new
+        ≡ page.old ++ listed (map (λ r. Ok r) (first.now ∷ others.now))) }
 {
-    push_quoted(text, &Ok(*first))?;
+    push_quoted(page, &Ok(*first))?;
     for reply in others {
-        text.push_str(", ")?;
-        push_quoted(text, &Ok(*reply))?;
+        page.push(b", ")?;
+        push_quoted(page, &Ok(*reply))?;
     }
     Ok(())
 }
@@ -58,45 +79,58 @@ fn push_replies(text: &mut String, first: &Reply, others: &[Reply]) -> Result<()
 /// Appends what a step's call may be answered, with commas between.
 fn push_admitted(
     alloc: Global,
-    text: &mut String,
+    page: &mut Page,
     kernel: &Kernel,
     step: &Step,
 ) -> Result<(), AllocError>
-    ensures { OnOk result (string_bytes text.new
-        ≡ string_bytes text.old
-        ++ listed (admitted kernel.now (call_of step.now.actor step.now.event))) }
+    ensures { OnOk result (page.new
+        ≡ page.old ++ listed (admitted kernel.now (call_of step.now.actor step.now.event))) }
 {
     let own = kernel.foresee(step.actor, &step.event);
     let replies = offered(alloc, kernel.table(), step.actor, &step.event)?;
     match replies.as_slice().split_first() {
-        Some((first, others)) if own.is_ok() => push_replies(text, first, others),
-        _ => push_quoted(text, &own),
+        Some((first, others)) if own.is_ok() => push_replies(page, first, others),
+        _ => push_quoted(page, &own),
     }
+}
+
+/// Appends a step, its call, and that it was answered.
+fn push_answered(page: &mut Page, place: usize, answered: &Answered) -> Result<(), AllocError>
+    ensures { OnOk result (page.new
+        ≡ page.old ++ (step_text (asked_by place answered.now) ++ codes "answered `")) }
+{
+    let mut text = LineBuffer::new();
+    text.prepend(b"answered `");
+    prepend_step(&mut text, place, answered);
+    page.push(text.as_bytes())
 }
 
 /// Appends the line of an answer that can't be made.
 pub(crate) fn push_difference(
     alloc: Global,
-    text: &mut String,
+    page: &mut Page,
     kernel: &Kernel,
     place: usize,
     answered: &Answered,
     expected: &Expected,
 ) -> Result<(), AllocError>
-    ensures { OnOk result (string_bytes text.new
-        ≡ string_bytes text.old
-        ++ difference_line kernel.now (asked_by place answered.now) expected.now) }
+    ensures { OnOk result (page.new
+        ≡ page.old ++ difference_line kernel.now (asked_by place answered.now) expected.now) }
 {
-    push_step(text, place, answered)?;
-    write!(text, "answered `{}`; admitted: ", expected.as_str())?;
-    push_admitted(alloc, text, kernel, &answered.step)?;
-    text.push_str("\n")
+    push_answered(page, place, answered)?;
+    page.push(expected.as_str().as_bytes())?;
+    page.push(b"`; admitted: ")?;
+    push_admitted(alloc, page, kernel, &answered.step)?;
+    page.push(b"\n")
 }
 
 /// Appends how many answers agree.
-pub(crate) fn push_agreement(text: &mut String, count: u64) -> Result<(), AllocError>
-    ensures { OnOk result
-        (string_bytes text.new ≡ string_bytes text.old ++ agreement_line count) }
+pub(crate) fn push_agreement(page: &mut Page, count: u64) -> Result<(), AllocError>
+    ensures { OnOk result (page.new ≡ page.old ++ agreement_line count) }
 {
-    writeln!(text, "agrees: {count} answers")
+    let mut line = LineBuffer::new();
+    line.prepend(b" answers\n");
+    line.prepend_number(count);
+    line.prepend(b"agrees: ");
+    page.push(line.as_bytes())
 }

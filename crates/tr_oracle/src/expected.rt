@@ -126,7 +126,8 @@ fn is_given<X: Expectation>(
     expected: &X,
     answer: &Result<Reply, Refusal>,
 ) -> Result<bool, AllocError>
-    ensures { IsTried kernel.old kernel.new (call_of actor event.now) (X.fits expected.now) answer.now result }
+    ensures { IsTried kernel.old kernel.new (call_of actor event.now) (X.fits expected.now)
+        answer.now result }
 {
     if !expected.fits(answer)? {
         return Ok(false);

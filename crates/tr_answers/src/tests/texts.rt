@@ -34,7 +34,7 @@ fn fits_word_by_word(rt: HostRuntime) -> Result<(), Fail> {
     for line in FITS.lines() {
         let (expected, rest) = line.split_once('|').ok_or("a case")?;
         let (text, want) = rest.split_once('|').ok_or("a case")?;
-        let fits = Expected::new(rt.alloc(), expected)?.fits_text(text);
+        let fits = Expected::new(rt.alloc(), expected)?.fits_text(text.as_bytes());
         assert_eq!(rt; fits, want == "yes", "{line}");
     }
     Ok(())

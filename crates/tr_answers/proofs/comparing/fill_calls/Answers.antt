@@ -1,4 +1,4 @@
-use Rattle.std.proofs.Common.{◌<◌, ◌+◌, ◌-◌, ◌∷◌, [], arith, replicate, string_bytes}
+use Rattle.std.proofs.Common.{◌<◌, ◌+◌, ◌-◌, ◌∷◌, [], arith, replicate}
 use Rattle.std.proofs.lemmas.Result.{err_from_is_err_and}
 use Rattle.tr_answers.specs.Comparisons.{asked_by}
 use Rattle.tr_answers.proofs.Walking.{going_at_end, going_differs, going_halted, going_next, none_of_many, one_of_many}
@@ -11,7 +11,7 @@ returns-in_err-fill_call g c =
     let q = asked_by c.args.place c.args.answered.now in
     let more : c.loop.counter < times = omega arith in
     let i = rw (one_of_many q times c.loop.counter more) at c.loop.invariant.going in
-    rw (p.1, p.2) (going_halted g.W.Sink.taken g.W.Sink.failures _ _ _ _ _ (string_bytes c.fill_call.new.kept) _ _ c.fill_call.new.kernel _ (q ∷ []) (replicate (times - (c.loop.counter + 1)) q) _ i c.in_err-fill_call.ensures)
+    rw (p.1, p.2) (going_halted g.W.Sink.taken g.W.Sink.failures _ _ _ _ _ c.fill_call.new.page _ _ c.fill_call.new.kernel _ (q ∷ []) (replicate (times - (c.loop.counter + 1)) q) _ i c.in_err-fill_call.ensures)
 
 pub returns-then-not-branch : goal.returns-then-not-branch
 returns-then-not-branch g c =

@@ -1,9 +1,11 @@
-use Rattle.std.proofs.Common.{◌∙◌, sym}
-use Rattle.tr_answers.proofs.Words.{all_fit, none_fits}
+use Rattle.std.proofs.Common.{◌≡◌, ◌∙◌, ap, false}
+use Rattle.std.specs.Str.{bytes_eq}
+use Rattle.tr_answers.specs.Fits.{is_open}
+use Rattle.tr_answers.proofs.Words.{closed_fits}
 use Rattle.tr_answers.proofs.expected.Expected.fits_text.Goals as goal
 
-pub returns-then-has_as_many_words : goal.returns-then-has_as_many_words
-returns-then-has_as_many_words c = all_fit c.args.self.now c.as_str-expected.result.now c.args.text.now c.fit_in_turn.result c.as_str-expected.ensures (sym c.has_as_many_words.ensures ∙ c.if-has_as_many_words.true) c.fit_in_turn.ensures
-
-pub returns-else-has_as_many_words : goal.returns-else-has_as_many_words
-returns-else-has_as_many_words c = c.if-has_as_many_words.false ∙ none_fits c.args.self.now c.as_str-expected.result.now c.args.text.now c.as_str-expected.ensures (sym c.has_as_many_words.ensures ∙ c.if-has_as_many_words.false)
+pub returns-else-self : goal.returns-else-self
+returns-else-self c =
+    let same : c.as_bytes-expected.result.now ≡ c.args.self.now = cc in
+    let closed : is_open c.args.self.now ≡ false = cc in
+    c.eq.ensures ∙ (ap (λ e. bytes_eq e c.args.text.now) same ∙ closed_fits c.args.self.now c.args.text.now closed)
