@@ -1,0 +1,135 @@
+-- What is answered, line by line.
+use Rattle.std.specs.Prelude.{ℕ, ◌==◌, List, [], ◌∷◌, ◌++◌, Option, Some, None, Result, Ok, Err, codes, if◌then◌else◌, length, nat_le, replicate}
+use Rattle.tr_tracee.specs.declared.thread.Thread.{Thread}
+use Rattle.tr_model.specs.declared.fates.Totals.{Totals}
+use Rattle.tr_model.specs.declared.replies.Refusal.TheVariants.{Srch}
+use Rattle.tr_model.specs.Journals.{totals}
+use Rattle.tr_model.specs.Runs as runs
+use Rattle.tr_model.specs.Runs.{Call, begun_at}
+use Rattle.tr_model.specs.Tables.{Table, thread_of}
+use Rattle.tr_table.specs.declared.starts.Start.{Start}
+use Rattle.tr_table.specs.Starts.{table_of}
+use Rattle.tr_kernel.specs.States as kernel
+use Rattle.tr_status.specs.Statuses.{status_text}
+use Rattle.tr_status.specs.Texts.{texts}
+use Rattle.tr_scenario.specs.declared.faults.ScenarioFault.{ScenarioFault}
+use Rattle.tr_scenario.specs.declared.steps.Step.{Step}
+use Rattle.tr_scenario.specs.Faults.{scenario_fault_name}
+use Rattle.tr_scenario.specs.Kernels.{so_far}
+use Rattle.tr_scenario.specs.Lines.{totals_line}
+use Rattle.tr_scenario.specs.Replies.{refusal_text}
+use Rattle.tr_scenario.specs.RunTexts.{call_of, call_text, calls_text, state_after}
+use Rattle.tr_live.specs.declared.commands.Command.{Command}
+use Rattle.tr_live.specs.declared.commands.Command.TheVariants.{Make, ShowStatus, ShowTable, ShowTotals}
+use Rattle.tr_live.specs.Commands.{command_of, line_read, opening_of}
+
+-- What a dialogue is about
+
+-- where its kernel started from, and the run so far
+pub record Session : Type 0 where
+  pub start : Start
+  pub run : runs.State
+
+-- a kernel's
+abbrev pub session_of : kernel.State → Session
+session_of k = record { start = k.start; run = so_far k }
+
+-- of a kernel that was just opened
+abbrev pub begun : Start → Session
+begun s = record { start = s; run = begun_at (table_of s) }
+
+-- the kernel, once there is one, and the bytes of a line that hasn't ended yet
+pub record Dialogue : Type 0 where
+  pub session : Option Session
+  pub line : List ℕ
+
+-- nothing was said yet
+abbrev pub silence : Dialogue
+silence = record { session = None; line = [] }
+
+-- Answers
+
+-- a text, and the kernel after it
+pub record Answer : Type 0 where
+  pub text : List ℕ
+  pub session : Option Session
+
+-- a fault is answered by its name
+abbrev pub refused_line : ScenarioFault → List ℕ
+refused_line e = texts (codes "refused " ∷ scenario_fault_name e ∷ codes "\n" ∷ [])
+
+-- the status of a thread; where there is none, ESRCH
+abbrev pub status_or_refusal : Table → Option Thread → List ℕ
+status_or_refusal T (Some t) = status_text T t
+status_or_refusal T None = texts (codes "refused " ∷ refusal_text Srch ∷ codes "\n" ∷ [])
+
+-- the statuses of threads, one after the other
+abbrev pub table_text : Table → List Thread → List ℕ
+table_text T [] = []
+table_text T (t ∷ ts) = status_text T t ++ table_text T ts
+
+-- the calls of a step
+abbrev pub calls_of : Step → List Call
+calls_of s = replicate s.times (call_of s.actor s.event)
+
+-- the totals of a run
+abbrev pub totals_of : Session → Totals
+totals_of s = totals (table_of s.start) s.run.journal s.run.table
+
+-- what a command is answered
+abbrev pub obeyed : Session → Command → Answer
+obeyed s (Make step) = record { text = calls_text call_text s.run (calls_of step); session = Some (record s { run = state_after s.run (calls_of step) }) }
+obeyed s (ShowStatus id) = record { text = status_or_refusal s.run.table (thread_of s.run.table id); session = Some s }
+obeyed s ShowTable = record { text = table_text s.run.table s.run.table.threads; session = Some s }
+obeyed s ShowTotals = record { text = totals_line (totals_of s); session = Some s }
+
+-- a line that is refused changes nothing
+abbrev pub commanded : Session → Result Command ScenarioFault → Answer
+commanded s (Err e) = record { text = refused_line e; session = Some s }
+commanded s (Ok c) = obeyed s c
+
+-- a kernel is opened, or the line is refused
+abbrev pub opened : Result Start ScenarioFault → Answer
+opened (Err e) = record { text = refused_line e; session = None }
+opened (Ok s) = record { text = codes "started\n"; session = Some (begun s) }
+
+-- the first line that isn't refused opens a kernel, and those after it command it
+abbrev pub answer : Option Session → List ℕ → Answer
+answer None line = opened (line_read opening_of line)
+answer (Some s) line = commanded s (line_read command_of line)
+
+-- an empty line stands behind each answer
+abbrev pub answer_text : Option Session → List ℕ → List ℕ
+answer_text s line = (answer s line).text ++ codes "\n"
+
+-- Dialogues
+
+-- one byte more; of a line that is too long no more are kept than show it
+abbrev pub longer : List ℕ → ℕ → List ℕ
+longer line b = if nat_le (length line) 65536 then line ++ b ∷ [] else line
+
+-- after a byte: a newline ends the line
+abbrev pub heard_byte : Dialogue → ℕ → Dialogue
+heard_byte d b = if b == 10 then record { session = (answer d.session d.line).session; line = [] } else record { session = d.session; line = longer d.line b }
+
+-- what is answered to it
+abbrev pub said_to_byte : Dialogue → ℕ → List ℕ
+said_to_byte d b = if b == 10 then answer_text d.session d.line else []
+
+-- after bytes
+abbrev pub heard : Dialogue → List ℕ → Dialogue
+heard d [] = d
+heard d (b ∷ bs) = heard (heard_byte d b) bs
+
+-- what is answered to them
+abbrev pub said : Dialogue → List ℕ → List ℕ
+said d [] = []
+said d (b ∷ bs) = said_to_byte d b ++ said (heard_byte d b) bs
+
+-- what is answered at the end of the bytes to a line that no newline ended
+abbrev pub said_last : Dialogue → List ℕ
+said_last d = if length d.line == 0 then [] else answer_text d.session d.line
+
+-- all that is answered to these bytes
+abbrev pub dialogue_text : List ℕ → List ℕ
+dialogue_text bytes = said silence bytes ++ said_last (heard silence bytes)

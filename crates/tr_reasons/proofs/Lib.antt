@@ -1,0 +1,4 @@
+pub mod Firsts
+pub mod OfCauses
+pub mod Whys
+pub mod Wholes

@@ -1,0 +1,5 @@
+pub mod Explained
+pub mod Explains
+pub mod Private
+pub mod Reasons
+pub mod Sentences
