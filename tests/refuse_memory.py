@@ -1,11 +1,16 @@
 #!/usr/bin/env python3
-"""Refuses memory to the built program, each allocation in turn, and threads likewise.
+"""Refuses memory to the built programs, each allocation in turn, and threads likewise.
 
-usage: refuse_memory.py PROGRAM
+usage: refuse_memory.py PROGRAM AGAIN
 
 Each case of run_programs.py that ends with status 0 is run with its first allocation refused, then with its second, and so on until
 none was refused; once with that one alone, and once with all after it too. Each run has to end as the case says, or with status 3,
-`tracebox: NoMemory` on standard error, and a front of the text on standard output. The last line is 'N passed, M failed'.
+`tracebox: NoMemory` on standard error, and a front of the text on standard output. The cases of examples/explore are left out: they
+ask for memory thousands of times, in no other places than the case schedules_are_explored.
+
+AGAIN is the program of crates/test_refused, which makes a call again that memory was refused to, and looks before that nothing has
+changed. Whichever allocation is refused, it has to print what it prints where none is; and over all runs, memory has to have been
+refused to each kind of call that makes an entry. The last line is 'N passed, M failed'.
 """
 
 import os
@@ -17,6 +22,7 @@ import tempfile
 from run_programs import SECONDS, TOP, cases
 
 NO_MEMORY = b"tracebox: NoMemory\n"
+READS = {"message", "siginfo"}
 MODES = {"one": {}, "all after it": {"REFUSE_ON": "1"}, "a thread": {"REFUSE_THREADS": "1"}}
 
 
@@ -51,25 +57,43 @@ def tried(program, library, mode, words, given, out, err, status):
         yield number, fault(ran, out, err, status)
 
 
-def main(program):
+def made_again(program, library):
+    """Refuses in turn to the program that makes a refused call again, and yields what is wrong with each run."""
+    text = subprocess.run([program], capture_output=True, check=True, timeout=SECONDS).stdout
+    wanted = {line.split(":")[0] for line in text.decode().splitlines() if "entries" in line} - READS
+    number, refused = 0, True
+    while refused:
+        number += 1
+        ran, refused = run(program, [], b"", {"LD_PRELOAD": library, "REFUSE_AT": str(number)})
+        wanted -= {line.removeprefix("refused to ") for line in ran.stderr.decode().splitlines()}
+        is_same = (ran.returncode, ran.stdout) == (0, text)
+        yield number, "" if is_same else f"it ended with status {ran.returncode} and printed {ran.stdout!r}"
+    yield number, f"nothing was ever refused to {', '.join(sorted(wanted))}" if wanted else ""
+
+
+def main(program, again):
     passed, failed = 0, 0
     with tempfile.TemporaryDirectory() as room:
         library = f"{room}/refusing.so"
         source = str(TOP / "tests" / "refusing.c")
         subprocess.run(["cc", "-shared", "-fPIC", "-O1", "-o", library, source, "-ldl"], check=True)
         for name, words, given, out, err, status in cases():
-            if status:
+            if status or name.startswith("examples/explore/"):
                 continue
             for mode in MODES:
                 for number, why in tried(program, library, mode, words, given, out, err, status):
                     passed, failed = passed + (not why), failed + bool(why)
                     if why:
                         print(f"{name}, {mode} refused at {number}: {why}")
+        for number, why in made_again(again, library):
+            passed, failed = passed + (not why), failed + bool(why)
+            if why:
+                print(f"{again}, refused at {number}: {why}")
     print(f"{passed} passed, {failed} failed")
     return 1 if failed or not passed else 0
 
 
 if __name__ == "__main__":
-    if len(sys.argv) != 2:
+    if len(sys.argv) != 3:
         sys.exit(__doc__)
-    sys.exit(main(str(pathlib.Path(sys.argv[1]).resolve())))
+    sys.exit(main(*(str(pathlib.Path(path).resolve()) for path in sys.argv[1:])))

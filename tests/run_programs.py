@@ -5,8 +5,8 @@ usage: run_programs.py PROGRAM
 
 Each folder of tests/programs is a case: `args` has an argument a line, `stdin`, `stdout` and `stderr` have bytes, and `status` a
 number; a file that isn't there is empty, or 0. Each examples/NAME.json is a case of `serial`, which has to write NAME.txt, and each
-examples/records/NAME.json one of `compare`, which ends with 0 where the last line of NAME.txt begins with `agrees`, else with 1. The
-last line is 'N passed, M failed'.
+examples/records/NAME.json one of `compare`, which ends with 0 where the last line of NAME.txt begins with `agrees`, else with 1, and
+each examples/explore/NAME.json one of `explore`. The last line is 'N passed, M failed'.
 """
 
 import pathlib
@@ -33,6 +33,9 @@ def cases():
         text = record.with_suffix(".txt").read_bytes()
         agrees = text.splitlines()[-1].startswith(b"agrees")
         yield f"examples/records/{record.name}", ["compare"], record.read_bytes(), text, b"", 0 if agrees else 1
+    for scenario in sorted((TOP / "examples" / "explore").glob("*.json")):
+        text = scenario.with_suffix(".txt").read_bytes()
+        yield f"examples/explore/{scenario.name}", ["explore"], scenario.read_bytes(), text, b"", 0
 
 
 def fault(program, words, given, out, err, status):

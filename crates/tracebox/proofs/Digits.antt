@@ -9,7 +9,7 @@ use Rattle.std.specs.List.{list_all}
 use Rattle.std.specs.Result.{result_ok}
 use Rattle.std.specs.Str.Parse.{AllDigits, IsNumeral, ParsesUnsigned, digits_value, without_leading_plus}
 use Rattle.clap.specs.ValueTests.{is_unsigned_in}
-use Rattle.tracebox.specs.Asks.{is_numeral, numeral_value, turns_value}
+use Rattle.tracebox.specs.Asks.{is_numeral, numeral_value, count_value}
 
 digit : (c : ℕ) → is_ascii_hexdigit c ≡ true → digit_value c < 16
 digit c h = grind (arith, common_steps, h)
@@ -68,17 +68,17 @@ are_read t h =
     ((some, are_digits (without_leading_plus t) digits), fits)
 
 -- a number in range is the turns of its text
-pub turns_read : {E : Type 0} (t : List ℕ) (n : ℕ) (r : Result ℕ E) → result_ok r ≡ Some n → ParsesUnsigned 64 10 t r → 1 ≤ n → n ≤ 100000000 → turns_value t ≡ Some n
-turns_read t n (Ok m) e p least most =
+pub count_read : {E : Type 0} (t : List ℕ) (n : ℕ) (r : Result ℕ E) → result_ok r ≡ Some n → ParsesUnsigned 64 10 t r → 1 ≤ n → n ≤ 100000000 → count_value t ≡ Some n
+count_read t n (Ok m) e p least most =
     let value : n ≡ digits_value 10 (without_leading_plus t) = sym (same_Some m n e) ∙ p.1 in
     rw (is_in t p.0.0 p.0.1 (omega (arith, value, least)) (omega (arith, value, most))) (ap Some (sym value))
-turns_read t n (Err x) e p least most = absurd (none-some n e)
+count_read t n (Err x) e p least most = absurd (none-some n e)
 
 -- a text that isn't read has none
 turns_unless : (b : Bool) (n : ℕ) → (b ≡ true → ⊥) → (if b then Some n else None) ≡ None
 turns_unless true n h = absurd (h refl)
 turns_unless false n h = refl
 
-pub turns_unread : {E : Type 0} (t : List ℕ) (r : Result ℕ E) → result_ok r ≡ None → ParsesUnsigned 64 10 t r → turns_value t ≡ None
-turns_unread t (Ok m) e p = absurd (none-some m (sym e))
-turns_unread t (Err x) e p = turns_unless (is_unsigned_in 1 100000000 t) (digits_value 10 (without_leading_plus t)) (λ h. p (are_read t h))
+pub count_unread : {E : Type 0} (t : List ℕ) (r : Result ℕ E) → result_ok r ≡ None → ParsesUnsigned 64 10 t r → count_value t ≡ None
+count_unread t (Ok m) e p = absurd (none-some m (sym e))
+count_unread t (Err x) e p = turns_unless (is_unsigned_in 1 100000000 t) (digits_value 10 (without_leading_plus t)) (λ h. p (are_read t h))

@@ -9,7 +9,7 @@ use Rattle.clap.specs.Words.{IsAmong, Kinds, Row, Text, fault_of, first_of, subc
 use Rattle.clap.specs.declared.error.kind.ErrorKind.{ErrorKind}
 use Rattle.clap.specs.declared.error.kind.ErrorKind.TheVariants as kind
 use Rattle.tracebox.specs.declared.asking.Ask.{Ask}
-use Rattle.tracebox.specs.declared.asking.Ask.TheVariants.{Serial, Threads, Compare, Decode}
+use Rattle.tracebox.specs.declared.asking.Ask.TheVariants.{Serial, Threads, Explore, Explain, Live, Compare, Decode}
 use Rattle.tracebox.specs.declared.asking.AskFault.{AskFault}
 use Rattle.tracebox.specs.declared.asking.AskFault.TheVariants.{Help, Usage, NoMemory}
 use Rattle.tracebox.specs.declared.asking.Declined.{Declined}
@@ -34,8 +34,8 @@ word_asked None = Err Usage
 word_asked (Some t) = decode_asked (numeral_value t)
 
 -- a whole number from 1 to 100,000,000
-abbrev pub turns_value : Text → Option ℕ
-turns_value t = if is_unsigned_in 1 100000000 t then Some (digits_value 10 (without_leading_plus t)) else None
+abbrev pub count_value : Text → Option ℕ
+count_value t = if is_unsigned_in 1 100000000 t then Some (digits_value 10 (without_leading_plus t)) else None
 
 -- turns ask for a run by threads
 abbrev pub threads_asked : Option ℕ → Result Ask AskFault
@@ -45,20 +45,34 @@ threads_asked (Some n) = Ok (Threads n)
 -- what N asks for
 abbrev pub turns_asked : Option Text → Result Ask AskFault
 turns_asked None = Err Usage
-turns_asked (Some t) = threads_asked (turns_value t)
+turns_asked (Some t) = threads_asked (count_value t)
+
+-- states ask for a search
+abbrev pub explore_asked : Option ℕ → Result Ask AskFault
+explore_asked None = Err Usage
+explore_asked (Some n) = Ok (Explore n)
+
+-- what N asks for
+abbrev pub states_asked : Option Text → Result Ask AskFault
+states_asked None = Err Usage
+states_asked (Some t) = explore_asked (count_value t)
 
 -- what a subcommand asks for, by its name and the rows of its matches
 abbrev pub named : Text → List Row → Result Ask AskFault
 named name rows =
     if bytes_eq name (codes "serial") then Ok Serial
     else (if bytes_eq name (codes "threads") then turns_asked (first_of (codes "turns") rows)
+    else (if bytes_eq name (codes "explore") then states_asked (first_of (codes "states") rows)
+    else (if bytes_eq name (codes "explain") then Ok Explain
+    else (if bytes_eq name (codes "live") then Ok Live
     else (if bytes_eq name (codes "compare") then Ok Compare
-    else (if bytes_eq name (codes "decode") then word_asked (first_of (codes "WORD") rows) else Err Usage)))
+    else (if bytes_eq name (codes "decode") then word_asked (first_of (codes "WORD") rows) else Err Usage))))))
 
--- the turns of a run by threads are 1 to 100,000,000
-abbrev pub HasTurns : Ask → Type 0
-HasTurns (Threads n) = (1 ≤ n) × (n ≤ 100000000)
-HasTurns _ = Unit {0}
+-- the turns of a run by threads and the states of a search are 1 to 100,000,000
+abbrev pub HasCount : Ask → Type 0
+HasCount (Threads n) = (1 ≤ n) × (n ≤ 100000000)
+HasCount (Explore n) = (1 ≤ n) × (n ≤ 100000000)
+HasCount _ = Unit {0}
 
 -- what the subcommand asks for; without one it is Usage
 abbrev pub asked_by : Option (Text × List Row) → Result Ask AskFault

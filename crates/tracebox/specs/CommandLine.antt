@@ -20,6 +20,22 @@ turns_rule = record (new_rule (codes "turns")) { long = Some (codes "turns"); ac
 abbrev pub threads_app : App
 threads_app = with_rule (new_app (codes "threads")) turns_rule
 
+-- `--states N`, 1 to 100,000,000, or else 1,000,000
+abbrev pub states_rule : Rule
+states_rule = record (new_rule (codes "states")) { long = Some (codes "states"); action = Some Set; value_names = 1; defaults = codes "1000000" ∷ []; parser = Some (Unsigned 1 100000000) }
+
+-- `explore` may have states
+abbrev pub explore_app : App
+explore_app = with_rule (new_app (codes "explore")) states_rule
+
+-- `explain` has no argument
+abbrev pub explain_app : App
+explain_app = new_app (codes "explain")
+
+-- `live` has no argument
+abbrev pub live_app : App
+live_app = new_app (codes "live")
+
 -- `compare` has no argument
 abbrev pub compare_app : App
 compare_app = new_app (codes "compare")
@@ -36,9 +52,17 @@ decode_app = with_rule (new_app (codes "decode")) word_rule
 abbrev pub runs_app : App
 runs_app = with_subcommand (with_subcommand bare serial_app.top) threads_app.top
 
+-- and with the word that explores schedules
+abbrev pub scenarios_app : App
+scenarios_app = with_subcommand runs_app explore_app.top
+
+-- and with the words that explain a run and hold a dialogue
+abbrev pub telling_app : App
+telling_app = with_subcommand (with_subcommand scenarios_app explain_app.top) live_app.top
+
 -- and with the word that compares a record
 abbrev pub readers_app : App
-readers_app = with_subcommand runs_app compare_app.top
+readers_app = with_subcommand telling_app compare_app.top
 
 -- and with the word that tells a status
 abbrev pub tracebox : App

@@ -12,27 +12,36 @@ use Rattle.tr_scenario.specs.Serial.{Devices, Runs}
 use Rattle.tr_scenario.specs.Sources.{Shown}
 use Rattle.tr_scenario.specs.Threaded.{RunsThreaded}
 use Rattle.tr_answers.specs.Compares.{Compares}
+use Rattle.tr_live.specs.Conversations.{Converses}
+use Rattle.tr_reasons.specs.Explains.{Explains}
+use Rattle.tr_schedules.specs.Exploring.{Explores}
 use Rattle.tracebox.specs.declared.asking.Ask.{Ask}
-use Rattle.tracebox.specs.declared.asking.Ask.TheVariants.{Serial, Threads, Compare, Decode}
+use Rattle.tracebox.specs.declared.asking.Ask.TheVariants.{Serial, Threads, Explore, Explain, Live, Compare, Decode}
 use Rattle.tracebox.specs.declared.asking.AskFault.{AskFault}
 use Rattle.tracebox.specs.declared.asking.AskFault.TheVariants as asking
 use Rattle.tracebox.specs.declared.faults.Fault.{Fault}
 use Rattle.tracebox.specs.declared.faults.Fault.TheVariants.{Usage, NotAWord, Scenario}
 use Rattle.tracebox.specs.declared.performing.Ending.{Ending}
-use Rattle.tracebox.specs.declared.performing.Ending.TheVariants.{Done, Differs}
+use Rattle.tracebox.specs.declared.performing.Ending.TheVariants.{Done, Differs, TooMany}
 use Rattle.tracebox.specs.Asks.{Answers, Blames}
 use Rattle.tracebox.specs.Faults.{fault_line, fault_status}
 use Rattle.tracebox.specs.Meanings.{meaning_line}
 
--- 1 where an answer differs
+-- 1 where an answer differs, or there are too many states
 abbrev pub ending_status : Ending → ℕ
 ending_status Done = 0
 ending_status Differs = 1
+ending_status TooMany = 1
 
 -- how a comparison ends
 abbrev pub ending_of : Bool → Ending
 ending_of true = Done
 ending_of false = Differs
+
+-- how a search ends
+abbrev pub search_ending : Bool → Ending
+search_ending true = Done
+search_ending false = TooMany
 
 -- a fault of a run is the program's
 abbrev pub run_result : Result ⊤ ScenarioFault → Result Ending Fault
@@ -43,6 +52,11 @@ run_result (Err e) = Err (Scenario e)
 abbrev pub comparison_result : Result Bool ScenarioFault → Result Ending Fault
 comparison_result (Ok agrees) = Ok (ending_of agrees)
 comparison_result (Err e) = Err (Scenario e)
+
+-- and one of a search
+abbrev pub search_result : Result Bool ScenarioFault → Result Ending Fault
+search_result (Ok complete) = Ok (search_ending complete)
+search_result (Err e) = Err (Scenario e)
 
 -- once a text is written, all is done
 abbrev pub text_result : Result ⊤ Fault → Result Ending Fault
@@ -87,10 +101,13 @@ module _ {R W : Type 0} (shown : R → Shown) (taken : W → List ℕ) (failures
   abbrev pub devices : R → W → Devices
   devices r w = record { reader = shown r; taken = taken w; failures = failures w }
 
-  -- what is done of what was asked for: the reader is read by a run or a comparison alone
+  -- what is done of what was asked for: the reader is read by a run, a search, a dialogue or a comparison alone
   abbrev pub Does : Result Ask AskFault → R → R → W → W → Result Ending Fault → Type 0
   Does (Ok Serial) r_old r_new w_old w_new result = (run : Result ⊤ ScenarioFault) × Runs (devices r_old w_old) (devices r_new w_new) run × (result ≡ run_result run)
   Does (Ok (Threads turns)) r_old r_new w_old w_new result = (run : Result ⊤ ScenarioFault) × RunsThreaded (devices r_old w_old) (devices r_new w_new) turns run × (result ≡ run_result run)
+  Does (Ok (Explore states)) r_old r_new w_old w_new result = (survey : Result Bool ScenarioFault) × Explores (devices r_old w_old) (devices r_new w_new) states survey × (result ≡ search_result survey)
+  Does (Ok Explain) r_old r_new w_old w_new result = (run : Result ⊤ ScenarioFault) × Explains (devices r_old w_old) (devices r_new w_new) run × (result ≡ run_result run)
+  Does (Ok Live) r_old r_new w_old w_new result = (talk : Result ⊤ ScenarioFault) × Converses (devices r_old w_old) (devices r_new w_new) talk × (result ≡ run_result talk)
   Does (Ok Compare) r_old r_new w_old w_new result = (comparison : Result Bool ScenarioFault) × Compares (devices r_old w_old) (devices r_new w_new) comparison × (result ≡ comparison_result comparison)
   Does (Ok (Decode w)) r_old r_new w_old w_new result = (r_new ≡ r_old) × ((text : Result ⊤ Fault) × Decodes taken failures w_old w_new w text × (result ≡ text_result text))
   Does (Err fault) r_old r_new w_old w_new result = (r_new ≡ r_old) × ((text : Result ⊤ Fault) × Declines taken failures fault w_old w_new text × (result ≡ text_result text))

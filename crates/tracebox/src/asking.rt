@@ -1,10 +1,10 @@
 ghost use Rattle.std.specs.Prelude.{◌≡◌, ◌⊎◌, IfOk, map, option_map};
 ghost use Rattle.clap.specs.Words.{first_of, found_of, kind_of, rows_of, subcommand_rows_of};
 ghost use Rattle.tracebox.specs.declared.asking.AskFault.TheVariants.{NoMemory};
-ghost use Rattle.tracebox.specs.Asks.{Answers, Blames, HasTurns, answer_of, asked_by, fault_at, named, turns_asked, word_asked};
+ghost use Rattle.tracebox.specs.Asks.{Answers, Blames, HasCount, answer_of, asked_by, fault_at, named, states_asked, turns_asked, word_asked};
 
 use crate::commands::command;
-use crate::numerals::{hexadecimal, turns};
+use crate::numerals::{count, hexadecimal};
 use clap::error::ErrorKind;
 use clap::{ArgMatches, Error};
 use std::alloc::{AllocError, Global};
@@ -18,6 +18,12 @@ pub enum Ask {
     Serial,
     /// Run it by workers on threads, each with so many turns, 1 to 100,000,000.
     Threads(u64),
+    /// Explore the schedules of its workers, of at most so many states, 1 to 100,000,000.
+    Explore(u32),
+    /// Run it as `Serial`, and tell why each call is answered so.
+    Explain,
+    /// Hold a dialogue: answer each line on standard input.
+    Live,
     /// Compare the record on standard input with what the model admits.
     Compare,
     /// Tell the status of this word.
@@ -44,13 +50,14 @@ pub struct Declined {
 }
 
 /// What the words of a command line ask for, of which the first is the program's name: `serial`; `threads`, with the
-/// turns of each worker, 100,000 where none are given; `compare`; or `decode` and a word of 1 to 8 hexadecimal digits of
-/// either case without a prefix. `Usage` for a word of another form. Where `clap` doesn't take the words, `Help` if they
-/// want help or the version, with that text, else `Usage`. `NoMemory` where memory is refused, also to that text.
+/// turns of each worker, 100,000 where none are given; `explore`, with the most states, 1,000,000 where none are given;
+/// `explain`; `live`; `compare`; or `decode` and a word of 1 to 8 hexadecimal digits of either case without a prefix. `Usage`
+/// for a word of another form. Where `clap` doesn't take the words, `Help` if they want help or the version, with that text,
+/// else `Usage`. `NoMemory` where memory is refused, also to that text.
 pub fn asked<'a, S: AsStr>(alloc: Global, words: &'a [S]) -> Result<Ask, Declined>
     ensures answers { Answers (map S.text words.entry.now) (answer_of result) }
     ensures blames { Blames (map S.text words.entry.now) (answer_of result) }
-    ensures turns { IfOk result HasTurns }
+    ensures counts { IfOk result HasCount }
 {
     let Ok(command) = command(alloc) else {
         return Err(without_text(alloc, AskFault::NoMemory));
@@ -98,7 +105,7 @@ fn fault_at(kind: ErrorKind) -> AskFault
 
 fn ask_of(alloc: Global, matches: &ArgMatches<'_>) -> Result<Ask, Declined>
     ensures asked { answer_of result ≡ asked_by (subcommand_rows_of matches.now) }
-    ensures turns { IfOk result HasTurns }
+    ensures counts { IfOk result HasCount }
 {
     match subcommand_ask(matches) {
         Ok(ask) => Ok(ask),
@@ -108,7 +115,7 @@ fn ask_of(alloc: Global, matches: &ArgMatches<'_>) -> Result<Ask, Declined>
 
 fn subcommand_ask(matches: &ArgMatches<'_>) -> Result<Ask, AskFault>
     ensures asked { result ≡ asked_by (subcommand_rows_of matches.now) }
-    ensures turns { IfOk result HasTurns }
+    ensures counts { IfOk result HasCount }
 {
     match matches.subcommand() {
         Some((name, inner)) => named_ask(name, inner),
@@ -118,12 +125,18 @@ fn subcommand_ask(matches: &ArgMatches<'_>) -> Result<Ask, AskFault>
 
 fn named_ask(name: &str, matches: &ArgMatches<'_>) -> Result<Ask, AskFault>
     ensures named { result ≡ named name.now (rows_of (found_of matches.now)) }
-    ensures turns { IfOk result HasTurns }
+    ensures counts { IfOk result HasCount }
 {
     if name == "serial" {
         Ok(Ask::Serial)
     } else if name == "threads" {
         threads_ask(value(matches, "turns"))
+    } else if name == "explore" {
+        explore_ask(value(matches, "states"))
+    } else if name == "explain" {
+        Ok(Ask::Explain)
+    } else if name == "live" {
+        Ok(Ask::Live)
     } else if name == "compare" {
         Ok(Ask::Compare)
     } else if name == "decode" {
@@ -135,11 +148,24 @@ fn named_ask(name: &str, matches: &ArgMatches<'_>) -> Result<Ask, AskFault>
 
 fn threads_ask(text: Option<&str>) -> Result<Ask, AskFault>
     ensures asked { result ≡ turns_asked (option_map (λ t. t.now) text.entry) }
-    ensures turns { IfOk result HasTurns }
+    ensures counts { IfOk result HasCount }
 {
     match text {
-        Some(text) => match turns(text) {
+        Some(text) => match count(text) {
             Some(turns) => Ok(Ask::Threads(turns)),
+            None => Err(AskFault::Usage),
+        },
+        None => Err(AskFault::Usage),
+    }
+}
+
+fn explore_ask(text: Option<&str>) -> Result<Ask, AskFault>
+    ensures asked { result ≡ states_asked (option_map (λ t. t.now) text.entry) }
+    ensures counts { IfOk result HasCount }
+{
+    match text {
+        Some(text) => match count(text) {
+            Some(states) => Ok(Ask::Explore(states as u32)),
             None => Err(AskFault::Usage),
         },
         None => Err(AskFault::Usage),
@@ -148,7 +174,7 @@ fn threads_ask(text: Option<&str>) -> Result<Ask, AskFault>
 
 fn decode_ask(text: Option<&str>) -> Result<Ask, AskFault>
     ensures asked { result ≡ word_asked (option_map (λ t. t.now) text.entry) }
-    ensures turns { IfOk result HasTurns }
+    ensures counts { IfOk result HasCount }
 {
     match text {
         Some(text) => match hexadecimal(text) {

@@ -1,7 +1,7 @@
 ghost use Rattle.std.specs.Prelude.{◌≡◌, IfOk, false};
 ghost use Rattle.clap.specs.Words.{app_of};
 ghost use Rattle.clap.specs.declared.builder.command.Command.TheViews.{out-Command as fields_of};
-ghost use Rattle.tracebox.specs.CommandLine.{compare_app, decode_app, runs_app, serial_app, threads_app, tracebox};
+ghost use Rattle.tracebox.specs.CommandLine.{compare_app, decode_app, explain_app, explore_app, live_app, readers_app, runs_app, scenarios_app, serial_app, telling_app, threads_app, tracebox};
 
 use clap::builder::ValueParser;
 use clap::{Arg, ArgAction, Command};
@@ -9,15 +9,15 @@ use std::alloc::{AllocError, Global};
 
 const VERSION: &str = "0.1.0";
 
-/// The most turns of each worker.
-pub(crate) const MOST_TURNS: u64 = 100_000_000;
+/// The most turns of each worker, and the most states of a search.
+pub(crate) const MOST: u64 = 100_000_000;
 
 const PROGRAM_END: &str =
-    "`serial` and `threads` read a scenario on standard input, `compare` a record, `decode` nothing but\n\
-its WORD. All print on standard output. A fault goes to standard error, as `tracebox: ` and its\n\
-name. Exit status: 0 done, also help; 1 the input is refused, no status has the word, a run doesn't\n\
-settle, or an answer differs; 2 the command line isn't one of these; 3 memory, the reader or the\n\
-writer failed.\n\n\
+    "`serial`, `threads`, `explore` and `explain` read a scenario on standard input, `live` what is said\n\
+in a dialogue, `compare` a record, `decode` nothing but its WORD. All print on standard output. A\n\
+fault goes to standard error, as `tracebox: ` and its name. Exit status: 0 done, also help; 1 the\n\
+input is refused, no status has the word, a run doesn't settle, there are too many states, or an\n\
+answer differs; 2 the command line isn't one of these; 3 memory, the reader or the writer failed.\n\n\
 Example:\n  \
 tracebox serial < scenario.json";
 
@@ -57,6 +57,49 @@ tracebox threads --turns 1000 < scenario.json\n\
 prints for each worker a line as `worker 900 entries 100 accepted 100 refused 0 end`. The line ends in\n\
 `turns` where the worker's turns were used up before its calls.";
 
+const EXPLORE: &str = "Explores all schedules of the scenario's workers on standard input.\n\n\
+Reads the same scenario as `threads`. At each moment any worker makes its next call; all orders of\n\
+that are looked at, and a state that was met before is not looked at again. Prints how many states\n\
+and steps there are, and each different end: how many states have it, and a shortest schedule that\n\
+leads there, as the places of workers in the scenario, from 0; whether each worker is at its end or\n\
+where it is stuck; the status of each thread; and the totals. An end is a state from which no\n\
+schedule leads to another table, other totals or a script further on. Last comes `complete`. With\n\
+more states than N, prints only that, and the exit status is 1.";
+
+const EXPLORE_END: &str = "Example:\n  \
+tracebox explore --states 1000 < scenario.json\n\
+prints first a line as `states 12 steps 20 ends 2`, and for each end a line as\n  \
+end 1 states 3 schedule 0 1 1 0";
+
+const EXPLAIN: &str =
+    "Runs the scenario on standard input as `serial` does, and tells why each call is answered so.\n\n\
+Prints below the line of a call, where it is refused, the condition that it doesn't meet; where it\n\
+makes no entry, what it finds; and where it puts a thread into a stop, which. Each such line names\n\
+the manual page that has the rule, or `this model's choice`. Of an input that is refused it prints\n\
+the name of the fault.";
+
+const EXPLAIN_END: &str = "Example:\n  \
+echo '{\"version\":1,\"limit\":4,\"entries\":9,\"groups\":[{\"tgid\":10,\"name\":\"demo\",\"actions\":[],\n    \
+\"threads\":[{\"tid\":10,\"blocked\":[]}]}],\"steps\":[{\"actor\":900,\"do\":\"cont\",\"tid\":10,\"sig\":0}]}' |\n    \
+tracebox explain\n\
+prints the lines of `serial`, and below the first\n  \
+  ESRCH: thread 10 isn't traced by the actor; ptrace(2), ERRORS";
+
+const LIVE: &str =
+    "Holds a dialogue with a kernel: answers each line on standard input before it reads the next.\n\n\
+A line is one JSON object of at most 65,536 bytes. The first is a scenario of version 1 without\n\
+`steps`, and opens a kernel; each after it is a step, whose calls are made and answered as `serial`\n\
+prints them, or asks for a text by `show`. A line that is refused is answered by `refused` and its\n\
+fault, and changes nothing. An empty line stands behind each answer.";
+
+const LIVE_END: &str = "Lines that ask for a text:\n  \
+{\"show\":\"status\",\"tid\":10}   {\"show\":\"table\"}   {\"show\":\"totals\"}\n\n\
+Example:\n  \
+printf '%s\\n' '{\"version\":1,\"limit\":4,\"entries\":9,\"groups\":[{\"tgid\":10,\"name\":\"demo\",\"actions\":[],\n    \
+\"threads\":[{\"tid\":10,\"blocked\":[]}]}]}' '{\"actor\":900,\"do\":\"kill\",\"tgid\":10,\"sig\":15}' |\n    \
+tracebox live\n\
+prints `started`, an empty line, `#1 900 kill sent 1 pending` and an empty line.";
+
 const COMPARE: &str = "Compares the record on standard input with what the model admits.\n\n\
 Reads a record: a scenario of version 1 in which a step may have `answer`, a text that another\n\
 system answered to each of its calls, as `serial` prints it after the event's name. A word of it may\n\
@@ -85,8 +128,31 @@ pub(crate) fn command<'a>(alloc: Global) -> Result<Command<'a>, AllocError>
     ensures { IfOk result (λ c. app_of c ≡ tracebox) }
 {
     let decode = decode_command(alloc)?;
-    let command = runs_command(alloc)?.subcommand(compare_command(alloc))?;
+    let command = readers_command(alloc)?;
     command.subcommand(decode)
+}
+
+/// The command line with the words that read standard input alone.
+fn readers_command<'a>(alloc: Global) -> Result<Command<'a>, AllocError>
+    ensures { IfOk result (λ c. app_of c ≡ readers_app) }
+{
+    telling_command(alloc)?.subcommand(compare_command(alloc))
+}
+
+/// The command line with the words that run a scenario, explore or explain it, or hold a dialogue.
+fn telling_command<'a>(alloc: Global) -> Result<Command<'a>, AllocError>
+    ensures { IfOk result (λ c. app_of c ≡ telling_app) }
+{
+    let command = scenarios_command(alloc)?.subcommand(explain_command(alloc))?;
+    command.subcommand(live_command(alloc))
+}
+
+/// The command line with the words that run a scenario or explore its schedules.
+fn scenarios_command<'a>(alloc: Global) -> Result<Command<'a>, AllocError>
+    ensures { IfOk result (λ c. app_of c ≡ scenarios_app) }
+{
+    let explore = explore_command(alloc)?;
+    runs_command(alloc)?.subcommand(explore)
 }
 
 /// The command line with the words that run a scenario alone.
@@ -122,13 +188,51 @@ fn threads_command<'a>(alloc: Global) -> Result<Command<'a>, AllocError>
         .value_name("N")
         .help("How many turns each worker has, 1 to 100,000,000: each call takes one")
         .action(ArgAction::Set)
-        .value_parser(ValueParser::Unsigned(1, MOST_TURNS))
+        .value_parser(ValueParser::Unsigned(1, MOST))
         .default_value("100000");
     Command::new(alloc, "threads")
         .about("Runs the scenario on standard input by workers, each on a thread of its own")
         .long_about(THREADS)
         .after_help(THREADS_END)
         .arg(turns)
+}
+
+fn explore_command<'a>(alloc: Global) -> Result<Command<'a>, AllocError>
+    ensures app { IfOk result (λ c. app_of c ≡ explore_app) }
+    ensures local { IfOk result (λ c. (fields_of c).has_globals ≡ false) }
+{
+    let states = Arg::new(alloc, "states")
+        .long("states")
+        .value_name("N")
+        .help("How many states are looked at, 1 to 100,000,000")
+        .action(ArgAction::Set)
+        .value_parser(ValueParser::Unsigned(1, MOST))
+        .default_value("1000000");
+    Command::new(alloc, "explore")
+        .about("Explores all schedules of the scenario's workers on standard input")
+        .long_about(EXPLORE)
+        .after_help(EXPLORE_END)
+        .arg(states)
+}
+
+fn explain_command<'a>(alloc: Global) -> Command<'a>
+    ensures app { app_of result ≡ explain_app }
+    ensures local { (fields_of result).has_globals ≡ false }
+{
+    Command::new(alloc, "explain")
+        .about("Runs the scenario on standard input, and tells why each call is answered so")
+        .long_about(EXPLAIN)
+        .after_help(EXPLAIN_END)
+}
+
+fn live_command<'a>(alloc: Global) -> Command<'a>
+    ensures app { app_of result ≡ live_app }
+    ensures local { (fields_of result).has_globals ≡ false }
+{
+    Command::new(alloc, "live")
+        .about("Holds a dialogue with a kernel, a line at a time")
+        .long_about(LIVE)
+        .after_help(LIVE_END)
 }
 
 fn compare_command<'a>(alloc: Global) -> Command<'a>

@@ -1,7 +1,7 @@
 ghost use Rattle.std.specs.Prelude.{◌≡◌, ◌≢◌};
 ghost use Rattle.tr_scenario.specs.declared.faults.ScenarioFault.TheVariants as scenario;
 ghost use Rattle.tracebox.specs.declared.faults.Fault.TheVariants.{Scenario, Usage};
-ghost use Rattle.tracebox.specs.Faults.{fault_name, fault_status, scenario_fault_name};
+ghost use Rattle.tracebox.specs.Faults.{fault_name, fault_status};
 
 use std::alloc::AllocError;
 use std::io::ErrorKind;
@@ -51,7 +51,7 @@ impl Fault {
         match self {
             Fault::Usage => "Usage",
             Fault::NotAWord => "NotAWord",
-            Fault::Scenario(fault) => scenario_fault_name(fault),
+            Fault::Scenario(fault) => fault.name(),
         }
     }
 
@@ -66,23 +66,6 @@ impl Fault {
             ) => 3,
             Fault::NotAWord | Fault::Scenario(_) => 1,
         }
-    }
-}
-
-fn scenario_fault_name(fault: ScenarioFault) -> &'static str
-    ensures { result.now ≡ scenario_fault_name fault }
-{
-    match fault {
-        ScenarioFault::NotJson => "NotJson",
-        ScenarioFault::BadField => "BadField",
-        ScenarioFault::BadSignal => "BadSignal",
-        ScenarioFault::TooLarge => "TooLarge",
-        ScenarioFault::Repeated => "Repeated",
-        ScenarioFault::BadStart => "BadStart",
-        ScenarioFault::Unsettled => "Unsettled",
-        ScenarioFault::NoMemory => "NoMemory",
-        ScenarioFault::ReadFault => "ReadFault",
-        ScenarioFault::WriteFault => "WriteFault",
     }
 }
 

@@ -2,9 +2,9 @@ ghost use Rattle.std.specs.Prelude.{◌≡◌, ◌≤◌, MatchOption, IfSome, t
 ghost use Rattle.std.specs.Char.{is_ascii_hexdigit};
 ghost use Rattle.std.specs.List.{list_all};
 ghost use Rattle.std.specs.Str.Parse.{digits_value};
-ghost use Rattle.tracebox.specs.Asks.{is_numeral, numeral_value, turns_value};
+ghost use Rattle.tracebox.specs.Asks.{count_value, is_numeral, numeral_value};
 
-use crate::commands::MOST_TURNS;
+use crate::commands::MOST;
 
 /// The number of one to eight hexadecimal digits of either case. `None` for any other text, also for one with a prefix
 /// or a sign.
@@ -31,13 +31,13 @@ fn all_digits(text: &[u8]) -> bool
 }
 
 /// A whole number from 1 to 100,000,000, of decimal digits, before which a plus may stand. `None` for any other text.
-pub(crate) fn turns(text: &str) -> Option<u64>
-    ensures value { result ≡ turns_value text.now }
+pub(crate) fn count(text: &str) -> Option<u64>
+    ensures value { result ≡ count_value text.now }
     ensures bounds { IfSome result (λ n. (1 ≤ n) × (n ≤ 100000000)) }
 {
-    let turns = text.parse::<u64>().ok()?;
-    if 1 <= turns && turns <= MOST_TURNS {
-        Some(turns)
+    let count = text.parse::<u64>().ok()?;
+    if 1 <= count && count <= MOST {
+        Some(count)
     } else {
         None
     }

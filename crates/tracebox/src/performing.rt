@@ -3,7 +3,7 @@ ghost use Rattle.std.specs.IoError.{error_kind};
 ghost use Rattle.tr_scenario.specs.declared.faults.ScenarioFault.TheVariants as scenario;
 ghost use Rattle.tracebox.specs.declared.faults.Fault.TheVariants.{Scenario, Usage};
 ghost use Rattle.tracebox.specs.Faults.{fault_status};
-ghost use Rattle.tracebox.specs.Performing.{Attempts, Declines, Decodes, Ends, Performs, Says, Tells, ending_of, ending_status};
+ghost use Rattle.tracebox.specs.Performing.{Attempts, Declines, Decodes, Ends, Performs, Says, Tells, ending_of, ending_status, search_ending};
 
 use crate::asking::{Ask, AskFault, Declined, asked};
 use crate::faults::{Fault, words_fault};
@@ -14,7 +14,10 @@ use std::io::{self, ErrorKind};
 use std::sync::Wait;
 use std::thread::Threads;
 use tr_answers::compare;
+use tr_live::converse;
+use tr_reasons::explain;
 use tr_scenario::{ScenarioFault, Source, serial, threaded};
+use tr_schedules::explore_schedules;
 use tr_status::{Sink, put_all};
 use tr_wait::{Word, decode};
 
@@ -25,23 +28,25 @@ pub enum Ending {
     Done,
     /// It is done, and an answer of the record differs.
     Differs,
+    /// There are more states than may be looked at.
+    TooMany,
 }
 
 impl Ending {
-    /// The exit status: 1 where an answer differs.
+    /// The exit status: 1 where an answer differs or there are too many states.
     pub fn status(self) -> u8
         ensures { result ≡ ending_status self }
     {
         match self {
             Ending::Done => 0,
-            Ending::Differs => 1,
+            Ending::Differs | Ending::TooMany => 1,
         }
     }
 }
 
 /// Does what the words of a command line ask for, of which the first is the program's name, and gives the exit status:
 /// 0, also after help, which goes to the writer; 1 for a refused input, a word that no status has, a run that doesn't
-/// settle or a record of which an answer differs, 2 for a command line that the program doesn't take, 3 where memory is
+/// settle, too many states or a record of which an answer differs, 2 for a command line that the program doesn't take, 3 where memory is
 /// refused or the reader or the writer fails. A fault goes to `faults` by its name. Where that can't be written the
 /// status stays.
 pub fn perform<T: AllocGlobal + Threads + Wait + Sync, S: AsStr, R: Source, W: Sink, E: Sink>(
@@ -118,6 +123,11 @@ fn attempt<T: Threads + Wait + Sync, S: AsStr, R: Source, W: Sink>(
     match asked(alloc, words) {
         Ok(Ask::Serial) => serial(alloc, reader, writer)?,
         Ok(Ask::Threads(turns)) => threaded(rt, alloc, reader, writer, turns)?,
+        Ok(Ask::Explore(states)) => {
+            return Ok(search_ending(explore_schedules(alloc, reader, writer, states)?));
+        }
+        Ok(Ask::Explain) => explain(alloc, reader, writer)?,
+        Ok(Ask::Live) => converse(alloc, reader, writer)?,
         Ok(Ask::Compare) => return Ok(ending_of(compare(alloc, reader, writer)?)),
         Ok(Ask::Decode(word)) => write_decoded(word, writer)?,
         Err(declined) => write_declined(&declined, writer)?,
@@ -133,6 +143,17 @@ fn ending_of(agrees: bool) -> Ending
         Ending::Done
     } else {
         Ending::Differs
+    }
+}
+
+/// How a search ends.
+fn search_ending(complete: bool) -> Ending
+    ensures { result ≡ search_ending complete }
+{
+    if complete {
+        Ending::Done
+    } else {
+        Ending::TooMany
     }
 }
 

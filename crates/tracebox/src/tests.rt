@@ -1,5 +1,7 @@
 mod command_lines;
 mod devices;
+mod explained;
+mod explored;
 mod large_groups;
 mod records;
 mod runs;

@@ -60,7 +60,7 @@ fn expect_front(rt: &impl Machine, failing_put: usize) {
 
 #[test]
 fn a_writer_fails_at_each_put(rt: HostRuntime) {
-    for failing_put in 1..25 {
+    for failing_put in 1..24 {
         expect_front(&rt, failing_put);
     }
 }

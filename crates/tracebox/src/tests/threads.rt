@@ -175,7 +175,7 @@ fn expect_front(rt: &impl Machine, failing_put: usize) {
 
 #[test]
 fn a_writer_fails_at_each_put_of_a_run_by_workers(rt: HostRuntime) {
-    for failing_put in 1..28 {
+    for failing_put in 1..27 {
         expect_front(&rt, failing_put);
     }
 }

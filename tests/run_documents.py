@@ -1,0 +1,95 @@
+#!/usr/bin/env python3
+"""Runs what the documents say that the built program prints.
+
+usage: run_documents.py PROGRAM
+
+Each scenario that stands in a page of the repository has to run, and the lines that follow it have to stand in its text, in their
+order; so have those that RECIPES.md quotes of an example. Each word that a page says `tracebox decode` prints a line of has to print
+it, or to be no word where the page says so. Each small input of a table of faults has to be refused with its fault. Each file that
+a page leads to has to be there. The last line is 'N passed, M failed'.
+"""
+
+import json
+import pathlib
+import re
+import subprocess
+import sys
+
+from run_programs import SECONDS, TOP
+
+PAGES = [page for pattern in ("*.md", "docs/*.md", "examples/**/*.md") for page in sorted(TOP.glob(pattern))]
+BLOCK = re.compile(r"^```(\w*)\n(.*?)^```$", re.M | re.S)
+LINE = re.compile(r"(#\d+|[.!]) \d+ [a-z_]+ ")
+RECIPE = re.compile(r"^Scenario: \[(\w+)\.json\].*?^```\n(.*?)^```$", re.M | re.S)
+DECODED = re.compile(r"`tracebox decode (\w+)` (?:prints|calls) `([^`]+)`".replace(" ", r"\s+"))
+WORD = re.compile(r"^\| [^|]+ \| `([0-9a-f]+)` \| `((?:exited|killed|stopped|event|continued)[^`]*)` \|", re.M)
+NO_WORD = re.compile(r"^\| [^|]+ \| `([0-9a-f]+)` \| `\{[^|]*(?:\\\|[^|]*)*\|$", re.M)
+FAULT = re.compile(r"^\| `([A-Z]\w+)` \|.*\| `(\{.*\})` \|$", re.M)
+CODE = re.compile(r"^```.*?^```$|`[^`]*`", re.M | re.S)
+LINK = re.compile(r"\]\(([^)#:\s]+)(?:#[^)\s]*)?\)")
+
+
+def run(program, words, given=""):
+    ran = subprocess.run([program, *words], input=given, capture_output=True, text=True, timeout=SECONDS)
+    return ran.returncode, ran.stdout, ran.stderr
+
+
+def stand_in_order(lines, text):
+    """Tells whether these lines stand in the text in their order, with others between them at most."""
+    left = iter(text.splitlines())
+    return all(line in left for line in lines)
+
+
+def scenarios(page):
+    """Each scenario of a page, with the block of lines that follows it."""
+    blocks = [(match[1], match[2]) for match in BLOCK.finditer(page)]
+    for (kind, text), (_, lines) in zip(blocks, [*blocks[1:], ("", "")]):
+        if kind == "json" and {"steps", "workers"} & json.loads(text).keys():
+            yield text, lines.splitlines() if LINE.match(lines) else []
+
+
+def runs(program, page):
+    for scenario, lines in scenarios(page):
+        status, out, err = run(program, ["serial"], scenario)
+        yield scenario.splitlines()[0], status == 0 and not err and stand_in_order(lines, out)
+    for name, quoted in RECIPE.findall(page):
+        text = (TOP / "examples" / f"{name}.txt").read_text()
+        yield name, stand_in_order(quoted.splitlines(), text)
+
+
+def words(program, page):
+    for word, line in [*DECODED.findall(page), *WORD.findall(page)]:
+        yield word, run(program, ["decode", word]) == (0, f"{line}\n", "")
+    for word in NO_WORD.findall(page.partition("Not modelled, so `tracebox decode`")[2]):
+        yield word, run(program, ["decode", word]) == (1, "", "tracebox: NotAWord\n")
+
+
+def faults(program, page):
+    for fault, given in FAULT.findall(page):
+        if ".." not in given:
+            word = "compare" if '"answer"' in given or given == '{"version":2}' else "serial"
+            yield given[:60], run(program, [word], given) == (1, "", f"tracebox: {fault}\n")
+
+
+def links(_, page, folder):
+    for path in LINK.findall(CODE.sub("", page)):
+        yield path, (folder / path).exists()
+
+
+def main(program):
+    passed, failed = 0, 0
+    for path in PAGES:
+        page = path.read_text()
+        found = [*runs(program, page), *words(program, page), *faults(program, page), *links(program, page, path.parent)]
+        for what, is_well in found:
+            passed, failed = passed + is_well, failed + (not is_well)
+            if not is_well:
+                print(f"{path.relative_to(TOP)}: {what}")
+    print(f"{passed} passed, {failed} failed")
+    return 1 if failed or not passed else 0
+
+
+if __name__ == "__main__":
+    if len(sys.argv) != 2:
+        sys.exit(__doc__)
+    sys.exit(main(str(pathlib.Path(sys.argv[1]).resolve())))
