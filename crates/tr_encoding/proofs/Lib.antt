@@ -1,0 +1,5 @@
+mod Depths
+mod Made
+mod Members
+mod ReadBack
+pub mod Wholes

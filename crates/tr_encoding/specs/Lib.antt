@@ -1,0 +1,4 @@
+pub mod Calls
+pub mod Private
+pub mod Scenarios
+pub mod Sets
