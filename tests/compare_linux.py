@@ -5,16 +5,20 @@ usage: compare_linux.py PROGRAM
 
 Each examples/linux/NAME.json is a record of answers. PROGRAM compares it; where an answer differs, that answer is left out and the
 record is compared again, until all that are left agree. Each line that told of a difference has to stand behind its record's name in
-examples/linux/differences.txt, and each line there has to be told. The last line is 'N passed, M failed', by records.
+examples/linux/differences.txt, and each line there has to be told. The table of docs/LINUX.md has to name each record with a
+difference, and no record that isn't there. The last line is 'N passed, M failed', by records.
 """
 
 import collections
 import json
 import pathlib
+import re
 import subprocess
 import sys
 
-FOLDER = pathlib.Path(__file__).resolve().parent.parent / "examples" / "linux"
+TOP = pathlib.Path(__file__).resolve().parent.parent
+FOLDER = TOP / "examples" / "linux"
+TABLE = "| call | model | Linux | records | pages |"
 SECONDS = 60
 
 
@@ -48,26 +52,33 @@ def known_differences():
     return known
 
 
+def faults_of_table(with_difference, there):
+    """What LINUX.md's table names or leaves out: the records with a difference, and those that are there, are given."""
+    table = (TOP / "docs" / "LINUX.md").read_text().partition(TABLE)[2].partition("\n\n")[0]
+    named = {name for row in table.splitlines() for name in re.findall(r"`(\w+)`", "".join(row.split(" | ")[-2:-1]))}
+    yield from (f"{name}: the table of docs/LINUX.md doesn't name it" for name in sorted(with_difference - named))
+    yield from (f"{name}: the table of docs/LINUX.md names it, and it isn't there" for name in sorted(named - there))
+
+
 def main(program):
     known = known_differences()
     records = sorted(FOLDER.glob("*.json"))
-    failed = 0
+    told = list(faults_of_table(known.keys(), {path.stem for path in records}))
+    passed = 0
     for path in records:
         want = known.pop(path.stem, [])
         try:
             found = differences(program, json.loads(path.read_text()))
         except (ValueError, subprocess.TimeoutExpired) as fault:
             found = [str(fault)]
+        passed += found == want
         if found != want:
-            failed += 1
-            told = [f"new: {line}" for line in found if line not in want]
-            told += [f"not found: {line}" for line in want if line not in found]
-            print(f"{path.stem}: " + "; ".join(told or ["in another order"]))
-    for name in known:
-        failed += 1
-        print(f"{name}: there is no such record")
-    print(f"{len(records) + len(known) - failed} passed, {failed} failed")
-    return 1 if failed or not records else 0
+            wrong = [f"new: {line}" for line in found if line not in want]
+            wrong += [f"not found: {line}" for line in want if line not in found]
+            told.append(f"{path.stem}: " + "; ".join(wrong or ["in another order"]))
+    told += [f"{name}: there is no such record" for name in known]
+    print(*told, f"{passed} passed, {len(told)} failed", sep="\n")
+    return 1 if told or not records else 0
 
 
 if __name__ == "__main__":
