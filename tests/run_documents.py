@@ -6,7 +6,8 @@ usage: run_documents.py PROGRAM
 Each scenario that stands in a page of the repository has to run, and the lines that follow it have to stand in its text, in their
 order; so have those that RECIPES.md quotes of an example. Each word that a page says `tracebox decode` prints a line of has to print
 it, or to be no word where the page says so. Each small input of a table of faults has to be refused with its fault. Each file that
-a page leads to has to be there. The last line is 'N passed, M failed'.
+a page leads to has to be there, with the heading that it leads to. Each word and option that help tells of has to stand in the man
+page and in the completions of each shell. The last line is 'N passed, M failed'.
 """
 
 import json
@@ -26,7 +27,11 @@ WORD = re.compile(r"^\| [^|]+ \| `([0-9a-f]+)` \| `((?:exited|killed|stopped|eve
 NO_WORD = re.compile(r"^\| [^|]+ \| `([0-9a-f]+)` \| `\{[^|]*(?:\\\|[^|]*)*\|$", re.M)
 FAULT = re.compile(r"^\| `([A-Z]\w+)` \|.*\| `(\{.*\})` \|$", re.M)
 CODE = re.compile(r"^```.*?^```$|`[^`]*`", re.M | re.S)
-LINK = re.compile(r"\]\(([^)#:\s]+)(?:#[^)\s]*)?\)")
+LINK = re.compile(r"\]\(([^)#:\s]*)(#[^):\s]*)?\)|^\[\w+\]: ()(#\S+)$", re.M)
+HEADING = re.compile(r"^#+ (.*)$", re.M)
+HELPERS = ["docs/tracebox.1", "completions/_tracebox", "completions/tracebox.bash", "completions/tracebox.fish"]
+COMMAND = re.compile(r"^  ([a-z]+) {2,}\S", re.M)
+OPTION = re.compile(r"^ +(?:-\w, )?--([a-z]+)", re.M)
 
 
 def run(program, words, given=""):
@@ -71,20 +76,39 @@ def faults(program, page):
             yield given[:60], run(program, [word], given) == (1, "", f"tracebox: {fault}\n")
 
 
-def links(_, page, folder):
-    for path in LINK.findall(CODE.sub("", page)):
-        yield path, (folder / path).exists()
+def anchors(page):
+    """What a link to a heading of the page may say, as forges make it of the heading's text."""
+    headings = HEADING.findall(re.sub(r"^```.*?^```$", "", page, flags=re.M | re.S))
+    return {"#" + re.sub(r"[^\w\- ]", "", heading.lower()).replace(" ", "-") for heading in headings}
+
+
+def links(_, page, path):
+    for file, anchor, _, other in LINK.findall(CODE.sub("", page)):
+        target = path.parent / file if file else path
+        yield file + anchor + other, target.exists() and (not anchor + other or anchor + other in anchors(target.read_text()))
+
+
+def helpers(program):
+    commands = COMMAND.findall(run(program, ["--help"])[1])
+    helps = [run(program, words)[1] for words in [["--help"], *([command, "--help"] for command in commands if command != "help")]]
+    told = [*commands, *sorted({option for text in helps for option in OPTION.findall(text)})]
+    for helper in HELPERS:
+        text = (TOP / helper).read_text().replace("\\-", "-")
+        yield from ((f"{helper}: {word}", re.search(rf"(?<!\w){word}(?!\w)", text) is not None) for word in told)
+    yield "--help: its words", len(commands) > 1
 
 
 def main(program):
     passed, failed = 0, 0
+    found = list(helpers(program))
     for path in PAGES:
         page = path.read_text()
-        found = [*runs(program, page), *words(program, page), *faults(program, page), *links(program, page, path.parent)]
-        for what, is_well in found:
-            passed, failed = passed + is_well, failed + (not is_well)
-            if not is_well:
-                print(f"{path.relative_to(TOP)}: {what}")
+        of_page = [*runs(program, page), *words(program, page), *faults(program, page), *links(program, page, path)]
+        found += [(f"{path.relative_to(TOP)}: {what}", is_well) for what, is_well in of_page]
+    for what, is_well in found:
+        passed, failed = passed + is_well, failed + (not is_well)
+        if not is_well:
+            print(what)
     print(f"{passed} passed, {failed} failed")
     return 1 if failed or not passed else 0
 
