@@ -90,7 +90,8 @@ def links(_, page, path):
 
 def helpers(program):
     commands = COMMAND.findall(run(program, ["--help"])[1])
-    helps = [run(program, words)[1] for words in [["--help"], *([command, "--help"] for command in commands if command != "help")]]
+    asked = [[], *([command] for command in commands if command != "help")]
+    helps = [run(program, [*words, "--help"])[1] for words in asked]
     told = [*commands, *sorted({option for text in helps for option in OPTION.findall(text)})]
     for helper in HELPERS:
         text = (TOP / helper).read_text().replace("\\-", "-")
