@@ -1,5 +1,5 @@
 use super::stops::{
-    DIE, EXIT, EXIT_GROUP, SEIZE_EXIT, TRACED, UNTRACED, after, all_die, held, is_in, some_in_stop,
+    DIE, DYING, EXIT, SEIZE_EXIT, TRACED, UNTRACED, after, all_die, held, is_in, some_in_stop,
     some_stopped, starter_word, tracer_word,
 };
 use super::{expect_answer, has_fate, same, sent};
@@ -63,11 +63,14 @@ fn kill_of_a_dead_group_is_flushed(rt: HostRuntime) -> Result<(), Fail> {
 
 #[test]
 fn killed_group_keeps_the_end_that_it_had(rt: HostRuntime) -> Result<(), Fail> {
-    let mut kernel = after(&rt, &[SEIZE_EXIT, EXIT_GROUP], false)?;
-    expect_answer(&rt, &mut kernel, 901, &KILL, &sent(1, Fate::Delivered));
-    all_die(&mut kernel);
-    same(&rt, &tracer_word(&mut kernel), &Some(0x300));
-    same(&rt, &starter_word(&mut kernel), &Some(0x300));
+    for case in &DYING {
+        let mut kernel = after(&rt, case.1, false)?;
+        is_in(&rt, &kernel, case.0);
+        is_killed(&rt, &mut kernel);
+        all_die(&mut kernel);
+        same(&rt, &tracer_word(&mut kernel), &Some(case.2));
+        same(&rt, &starter_word(&mut kernel), &Some(case.2));
+    }
     Ok(())
 }
 

@@ -32,6 +32,12 @@ pub(super) type Call = (u32, Event);
 /// A state, and the calls that bring thread 10 into it.
 pub(super) type Case = (State, &'static [Call]);
 
+/// A state of a tracee, the calls that bring thread 10 into it, and the state that the end of its tracer leaves it in.
+pub(super) type Traced = (State, &'static [Call], State);
+
+/// A state of a tracee, the calls that bring thread 10 into it, and the word of its group's end.
+pub(super) type Dying = (State, &'static [Call], u32);
+
 const ATTACH: Call = (900, Event::Attach { tid: 10 });
 
 pub(super) const SEIZE: Call = (
@@ -85,13 +91,21 @@ const SET_OPTIONS: Call = (
 
 const INTERRUPT: Call = (900, Event::Interrupt { tid: 10 });
 
+const CONT: Call = (900, Event::Cont { tid: 10, sig: 0 });
+
 const CONT_STOP: Call = (900, Event::Cont { tid: 10, sig: 19 });
+
+const CONT_TERM: Call = (900, Event::Cont { tid: 10, sig: 15 });
 
 const LISTEN: Call = (900, Event::Listen { tid: 10 });
 
 const KILL_USR1: Call = (901, Event::Kill { tgid: 10, sig: 10 });
 
 const KILL_STOP: Call = (901, Event::Kill { tgid: 10, sig: 19 });
+
+const KILL_CONT: Call = (901, Event::Kill { tgid: 10, sig: 18 });
+
+const KILL_TERM: Call = (901, Event::Kill { tgid: 10, sig: 15 });
 
 pub(super) const TAKE: Call = (10, Event::Take { tid: 10 });
 
@@ -108,6 +122,10 @@ const CLONE_THREAD: Call = (10, Event::CloneThread { tid: 10 });
 const EXEC: Call = (10, Event::Exec { tid: 10 });
 
 const OTHER_EXEC: Call = (11, Event::Exec { tid: 11 });
+
+const OTHER_DIE: Call = (11, Event::Die { tid: 11 });
+
+const FINISH: Call = (10, Event::Finish { tid: 10 });
 
 pub(super) const EXIT: Call = (10, Event::Exit { tid: 10, code: 3 });
 
@@ -126,22 +144,86 @@ pub(super) const UNTRACED: [Case; 7] = [
     (State::Execing, &[CLONE_THREAD, EXEC]),
 ];
 
-/// 900 traces thread 10.
-pub(super) const TRACED: [Case; 11] = [
-    (State::Free, &[SEIZE]),
-    (State::Pausing, &[SEIZE, PAUSE]),
-    (State::SignalStop, &[SEIZE, KILL_USR1, TAKE]),
+/// 900 traces thread 10, whose group isn't dying. Each way into a ptrace-stop is there.
+pub(super) const TRACED: [Traced; 20] = [
+    (State::Free, &[SEIZE], State::Free),
+    (State::Pausing, &[SEIZE, PAUSE], State::Pausing),
+    (State::SignalStop, &[SEIZE, KILL_USR1, TAKE], State::Free),
+    // The SIGTRAP of execve(2).
+    (
+        State::SignalStop,
+        &[ATTACH, TAKE, SET_OPTIONS, CONT, EXEC, TAKE],
+        State::Leaving,
+    ),
     (
         State::GroupStop,
         &[ATTACH, TAKE, SET_OPTIONS, CONT_STOP, HALT],
+        State::Stopped,
     ),
-    (State::CloneStop, &[SEIZE_CLONE, CLONE_THREAD, OTHER_TRAP]),
-    (State::ExecStop, &[SEIZE_EXEC, EXEC]),
-    (State::ExitStop, &[SEIZE_EXIT, EXIT]),
-    (State::EventStop, &[SEIZE, INTERRUPT, TRAP]),
-    (State::Listening, &[SEIZE, INTERRUPT, TRAP, LISTEN]),
-    (State::Leaving, &[SEIZE, EXIT]),
-    (State::Execing, &[SEIZE, CLONE_THREAD, EXEC]),
+    (
+        State::GroupStop,
+        &[KILL_STOP, TAKE, HALT, ATTACH, SET_OPTIONS],
+        State::Stopped,
+    ),
+    (
+        State::CloneStop,
+        &[SEIZE_CLONE, CLONE_THREAD, OTHER_TRAP],
+        State::Free,
+    ),
+    (State::ExecStop, &[SEIZE_EXEC, EXEC], State::Free),
+    (
+        State::ExecStop,
+        &[CLONE_THREAD, SEIZE_EXEC, EXEC, OTHER_DIE, FINISH],
+        State::Free,
+    ),
+    (State::ExitStop, &[SEIZE_EXIT, EXIT], State::Leaving),
+    // Another thread's execve(2) ends this one.
+    (
+        State::ExitStop,
+        &[CLONE_THREAD, SEIZE_EXIT, OTHER_EXEC, DIE],
+        State::Leaving,
+    ),
+    (State::EventStop, &[SEIZE, INTERRUPT, TRAP], State::Free),
+    (State::EventStop, &[SEIZE, KILL_CONT, TRAP], State::Free),
+    (
+        State::EventStop,
+        &[SEIZE, KILL_STOP, TAKE, CONT_STOP, HALT],
+        State::Stopped,
+    ),
+    (
+        State::EventStop,
+        &[KILL_STOP, TAKE, HALT, SEIZE],
+        State::Stopped,
+    ),
+    (
+        State::Listening,
+        &[SEIZE, INTERRUPT, TRAP, LISTEN],
+        State::Free,
+    ),
+    (
+        State::Listening,
+        &[SEIZE, KILL_STOP, TAKE, CONT_STOP, HALT, LISTEN],
+        State::Stopped,
+    ),
+    (State::Leaving, &[SEIZE, EXIT], State::Leaving),
+    (State::Leaving, &[SEIZE_EXIT, EXIT, CONT], State::Leaving),
+    (State::Execing, &[SEIZE, CLONE_THREAD, EXEC], State::Execing),
+];
+
+/// 900 traces thread 10, whose group is dying.
+pub(super) const DYING: [Dying; 4] = [
+    (State::Leaving, &[SEIZE_EXIT, EXIT_GROUP], 0x300),
+    (State::ExitStop, &[SEIZE_EXIT, EXIT_GROUP, DIE], 0x300),
+    (
+        State::Leaving,
+        &[SEIZE_EXIT, KILL_TERM, TAKE, CONT_TERM],
+        15,
+    ),
+    (
+        State::ExitStop,
+        &[SEIZE_EXIT, KILL_TERM, TAKE, CONT_TERM, DIE],
+        15,
+    ),
 ];
 
 fn state_in_stop(stop: &Stop) -> State {

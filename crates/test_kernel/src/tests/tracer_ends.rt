@@ -1,5 +1,5 @@
 use super::stops::{
-    DIE, EXIT, SEIZE, State, TRACED, after, all_die, held, is_in, some_in_stop, some_traced,
+    DIE, DYING, EXIT, SEIZE, State, TRACED, after, all_die, held, is_in, some_in_stop, some_traced,
     starter_word,
 };
 use super::{has_fate, same};
@@ -36,6 +36,23 @@ fn end_of_a_tracer_detaches_its_tracees(rt: HostRuntime) -> Result<(), Fail> {
         let mut kernel = after(&rt, case.1, false)?;
         is_in(&rt, &kernel, case.0);
         is_left(&rt, &mut kernel, Fate::Delivered);
+        is_in(&rt, &kernel, case.2);
+    }
+    Ok(())
+}
+
+/// A dying group keeps the end that it had, whether or not its tracer kills it.
+#[test]
+fn end_of_a_tracer_leaves_a_dying_group(rt: HostRuntime) -> Result<(), Fail> {
+    for exitkill in [false, true] {
+        for case in &DYING {
+            let mut kernel = after(&rt, case.1, exitkill)?;
+            is_in(&rt, &kernel, case.0);
+            is_left(&rt, &mut kernel, Fate::Delivered);
+            is_in(&rt, &kernel, State::Leaving);
+            all_die(&mut kernel);
+            same(&rt, &starter_word(&mut kernel), &Some(case.2));
+        }
     }
     Ok(())
 }
