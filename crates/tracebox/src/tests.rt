@@ -1,3 +1,4 @@
+mod breaking;
 mod command_lines;
 mod devices;
 mod explained;
