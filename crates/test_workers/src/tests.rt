@@ -1,6 +1,7 @@
 ghost use Rattle.std.specs.Prelude.{◌≡◌, ◌≤◌, ◌<◌, ◌^◌, IfOk, vec_len, length};
 
 mod gates;
+mod hubs;
 mod machines;
 mod memory;
 mod places;
