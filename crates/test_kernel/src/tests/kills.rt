@@ -1,6 +1,6 @@
 use super::stops::{
-    DIE, DYING, EXIT, SEIZE_EXIT, TRACED, UNTRACED, after, all_die, held, is_in, some_in_stop,
-    some_stopped, starter_word, tracer_word,
+    CLONE_THREAD, DIE, DYING, EXIT, EXIT_GROUP, OTHER_DIE, SEIZE_EXIT, SEIZE_OTHER, TRACED,
+    UNTRACED, after, all_die, held, is_in, some_in_stop, some_stopped, starter_word, tracer_word,
 };
 use super::{expect_answer, has_fate, same, sent};
 use std::process::Abort;
@@ -29,7 +29,7 @@ fn is_killed(rt: &impl Abort, kernel: &mut Kernel) {
 fn kill_ends(rt: &impl Abort, kernel: &mut Kernel, told: Option<u32>) {
     is_killed(rt, kernel);
     all_die(kernel);
-    same(rt, &tracer_word(kernel), &told);
+    same(rt, &tracer_word(kernel, 10), &told);
     same(rt, &starter_word(kernel), &Some(9));
 }
 
@@ -68,9 +68,22 @@ fn killed_group_keeps_the_end_that_it_had(rt: HostRuntime) -> Result<(), Fail> {
         is_in(&rt, &kernel, case.0);
         is_killed(&rt, &mut kernel);
         all_die(&mut kernel);
-        same(&rt, &tracer_word(&mut kernel), &Some(case.2));
+        same(&rt, &tracer_word(&mut kernel, 10), &Some(case.2));
         same(&rt, &starter_word(&mut kernel), &Some(case.2));
     }
+    Ok(())
+}
+
+/// Another thread than the leader tells the end of its group, and not that of the KILL at its exit stop.
+#[test]
+fn killed_thread_keeps_the_end_of_its_group(rt: HostRuntime) -> Result<(), Fail> {
+    let calls = [CLONE_THREAD, SEIZE_OTHER, EXIT_GROUP, OTHER_DIE];
+    let mut kernel = after(&rt, &calls, false)?;
+    same(&rt, &some_in_stop(&kernel), &true);
+    is_killed(&rt, &mut kernel);
+    all_die(&mut kernel);
+    same(&rt, &tracer_word(&mut kernel, 11), &Some(0x300));
+    same(&rt, &starter_word(&mut kernel), &Some(0x300));
     Ok(())
 }
 

@@ -81,6 +81,17 @@ pub(super) const SEIZE_EXIT: Call = (
     },
 );
 
+pub(super) const SEIZE_OTHER: Call = (
+    900,
+    Event::Seize {
+        tid: 11,
+        options: Options {
+            exit: true,
+            ..Options::NONE
+        },
+    },
+);
+
 const SET_OPTIONS: Call = (
     900,
     Event::SetOptions {
@@ -117,13 +128,13 @@ const OTHER_TRAP: Call = (11, Event::Trap { tid: 11 });
 
 const PAUSE: Call = (10, Event::Pause { tid: 10 });
 
-const CLONE_THREAD: Call = (10, Event::CloneThread { tid: 10 });
+pub(super) const CLONE_THREAD: Call = (10, Event::CloneThread { tid: 10 });
 
 const EXEC: Call = (10, Event::Exec { tid: 10 });
 
 const OTHER_EXEC: Call = (11, Event::Exec { tid: 11 });
 
-const OTHER_DIE: Call = (11, Event::Die { tid: 11 });
+pub(super) const OTHER_DIE: Call = (11, Event::Die { tid: 11 });
 
 const FINISH: Call = (10, Event::Finish { tid: 10 });
 
@@ -337,9 +348,9 @@ fn word_of(reply: &Result<Reply, Refusal>) -> Option<u32> {
     }
 }
 
-/// The word that a wait of the tracer gives for thread 10.
-pub(super) fn tracer_word(kernel: &mut Kernel) -> Option<u32> {
-    let which = Which::One(10);
+/// The word that a wait of the tracer gives for a thread.
+pub(super) fn tracer_word(kernel: &mut Kernel, id: u32) -> Option<u32> {
+    let which = Which::One(id);
     word_of(&kernel.step(900, Event::Wait { which }))
 }
 
