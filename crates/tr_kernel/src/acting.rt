@@ -40,12 +40,13 @@ pub fn act(
     };
     match checked {
         Checked::Quiet(reply) => Ok(Answer::Read(reply)),
-        Checked::Due(choice) => enter_unless_full(step, alloc, entries, actor, event, choice),
+        Checked::Due(choice) => act_with(step, alloc, entries, actor, event, choice),
     }
 }
 
-/// Makes an entry that is due, unless the journal is full.
-fn enter_unless_full(
+/// Makes one call of an actor that is due, with a choice that the model admits, as `act` does with this product's own.
+/// `JournalFull` comes where the journal takes no more than so many entries.
+pub fn act_with(
     step: &mut Step,
     alloc: Global,
     entries: u32,

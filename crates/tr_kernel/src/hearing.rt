@@ -34,8 +34,8 @@ pub(crate) fn is_reply(told: &Result<Reply, Refusal>, reply: &Reply) -> bool
     }
 }
 
-/// The choice that a reply tells.
-pub(crate) fn choice_of(event: &Event, reply: &Reply) -> Choice
+/// Reads off a reply to an event which choice was made; none where the event leaves nothing open.
+pub fn choice_of(event: &Event, reply: &Reply) -> Choice
     ensures { result ≡ choice_of event.now reply.now }
 {
     match event {

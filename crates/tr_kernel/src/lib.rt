@@ -17,6 +17,7 @@ mod notes;
 mod replies;
 mod restarts;
 
-pub use acting::act;
+pub use acting::{act, act_with};
 pub use answers::{Answer, Receipt};
+pub use hearing::choice_of;
 pub use kernels::{Kernel, StartFault};
