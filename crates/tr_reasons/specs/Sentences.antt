@@ -82,13 +82,18 @@ errors_page (event.EventMessage id) = codes "ptrace(2), ERRORS"
 errors_page (event.SignalInfo id) = codes "ptrace(2), ERRORS"
 errors_page _ = codes "this model's choice"
 
+-- the page that lets the event meet a full queue; kill(2) has no such error
+abbrev pub queue_page : Event → List ℕ
+queue_page (event.Kill g s) = codes "this model's choice"
+queue_page e = errors_page e
+
 -- the line of a reason why an event is refused
 abbrev pub reason_line : Event → Reason → List ℕ
 reason_line e (reason.NoThread id) = told (refusal_name (refusal_of (reason.NoThread id))) (codes "there is no thread ") id (codes "") (codes "") (errors_page e)
 reason_line e (reason.NoGroup g) = told (refusal_name (refusal_of (reason.NoGroup g))) (codes "there is no group ") g (codes "") (codes "") (errors_page e)
 reason_line e (reason.OfAnotherGroup id) = told (refusal_name (refusal_of (reason.OfAnotherGroup id))) (codes "thread ") id (codes "") (codes " is of another group") (errors_page e)
 reason_line e (reason.NoSignal s) = told (refusal_name (refusal_of (reason.NoSignal s))) (codes "") s (codes "") (codes " is above 64, the greatest signal") (errors_page e)
-reason_line e (reason.QueueFull limit) = told (refusal_name (refusal_of (reason.QueueFull limit))) (codes "as many signals wait as the queue limit says, ") limit (codes "") (codes "") (errors_page e)
+reason_line e (reason.QueueFull limit) = told (refusal_name (refusal_of (reason.QueueFull limit))) (codes "as many signals wait as the queue limit says, ") limit (codes "") (codes "") (queue_page e)
 reason_line e (reason.NotRunning id) = told (refusal_name (refusal_of (reason.NotRunning id))) (codes "thread ") id (codes "") (codes " doesn't run") (codes "this model's choice")
 reason_line e (reason.Pausing id) = told (refusal_name (refusal_of (reason.Pausing id))) (codes "thread ") id (codes "") (codes " waits in pause(2)") (codes "pause(2), DESCRIPTION")
 reason_line e (reason.HasMark id) = told (refusal_name (refusal_of (reason.HasMark id))) (codes "thread ") id (codes "") (codes " has a stop to make first") (codes "this model's choice")
@@ -97,7 +102,7 @@ reason_line e (reason.FixedAction s) = told (refusal_name (refusal_of (reason.Fi
 reason_line e reason.TableFull = told (refusal_name (refusal_of reason.TableFull)) (codes "the table has its ") 1024 (codes "") (codes " threads") (codes "clone(2), ERRORS")
 reason_line e (reason.GroupFull g) = told (refusal_name (refusal_of (reason.GroupFull g))) (codes "group ") g (codes "") (codes " has its 64 threads") (codes "clone(2), ERRORS")
 reason_line e (reason.NoGroupStop id) = told (refusal_name (refusal_of (reason.NoGroupStop id))) (codes "no group-stop asks thread ") id (codes "") (codes " to stop") (codes "ptrace(2), \"Group-stop\"")
-reason_line e (reason.NoTrap id) = told (refusal_name (refusal_of (reason.NoTrap id))) (codes "neither an interrupt nor a SIGCONT asks thread ") id (codes "") (codes " to stop") (codes "ptrace(2), PTRACE_INTERRUPT")
+reason_line e (reason.NoTrap id) = told (refusal_name (refusal_of (reason.NoTrap id))) (codes "neither an interrupt nor a SIGCONT asks thread ") id (codes "") (codes " to stop") (codes "this model's choice")
 reason_line e (reason.NotServing id) = told (refusal_name (refusal_of (reason.NotServing id))) (codes "thread ") id (codes "") (codes " neither runs nor listens") (codes "ptrace(2), \"Stopped states\"")
 reason_line e (reason.NotLeaving id) = told (refusal_name (refusal_of (reason.NotLeaving id))) (codes "thread ") id (codes "") (codes " isn't about to end") (codes "ptrace(2), \"Death under ptrace\"")
 reason_line e (reason.NotExecing id) = told (refusal_name (refusal_of (reason.NotExecing id))) (codes "thread ") id (codes "") (codes " isn't in execve(2)") (codes "ptrace(2), \"execve(2) under ptrace\"")
@@ -109,11 +114,11 @@ reason_line e (reason.NotTracee id) = told (refusal_name (refusal_of (reason.Not
 reason_line e (reason.TraceeEnded id) = told (refusal_name (refusal_of (reason.TraceeEnded id))) (codes "thread ") id (codes "") (codes " has ended, or is about to") (codes "ptrace(2), ERRORS")
 reason_line e (reason.NotStopped id) = told (refusal_name (refusal_of (reason.NotStopped id))) (codes "thread ") id (codes "") (codes " isn't in a ptrace-stop") (codes "ptrace(2), ERRORS")
 reason_line e (reason.NotSeized id) = told (refusal_name (refusal_of (reason.NotSeized id))) (codes "thread ") id (codes "") (codes " was attached, and not seized") (codes "ptrace(2), PTRACE_SEIZE")
-reason_line e (reason.NoEventStop id) = told (refusal_name (refusal_of (reason.NoEventStop id))) (codes "thread ") id (codes "") (codes " isn't in PTRACE_EVENT_STOP") (codes "ptrace(2), PTRACE_LISTEN")
+reason_line e (reason.NoEventStop id) = told (refusal_name (refusal_of (reason.NoEventStop id))) (codes "thread ") id (codes "") (codes " isn't in PTRACE_EVENT_STOP") (codes "this model's choice")
 reason_line e (reason.NoRestartSignal s) = told (refusal_name (refusal_of (reason.NoRestartSignal s))) (codes "") s (codes "") (codes " is above 64, the greatest signal") (codes "ptrace(2), ERRORS")
-reason_line e (reason.NoMessage id) = told (refusal_name (refusal_of (reason.NoMessage id))) (codes "the ptrace-stop of thread ") id (codes "") (codes " has no message") (codes "ptrace(2), PTRACE_GETEVENTMSG")
+reason_line e (reason.NoMessage id) = told (refusal_name (refusal_of (reason.NoMessage id))) (codes "the ptrace-stop of thread ") id (codes "") (codes " has no message") (codes "this model's choice")
 reason_line e (reason.InGroupStop id) = told (refusal_name (refusal_of (reason.InGroupStop id))) (codes "thread ") id (codes "") (codes " is in a group-stop, which holds no signal") (codes "ptrace(2), \"Group-stop\"")
-reason_line e (reason.NoDelivery id) = told (refusal_name (refusal_of (reason.NoDelivery id))) (codes "thread ") id (codes "") (codes " isn't in a signal-delivery-stop") (codes "ptrace(2), PTRACE_GETSIGINFO")
+reason_line e (reason.NoDelivery id) = told (refusal_name (refusal_of (reason.NoDelivery id))) (codes "thread ") id (codes "") (codes " isn't in a signal-delivery-stop") (codes "this model's choice")
 reason_line e (reason.NoTracee a) = told (refusal_name (refusal_of (reason.NoTracee a))) (codes "actor ") a (codes "") (codes " traces no thread that the wait asks for") (codes "waitpid(2), ERRORS")
 reason_line e (reason.NotStarter a) = told (refusal_name (refusal_of (reason.NotStarter a))) (codes "actor ") a (codes "") (codes " isn't the starter, actor 1") (codes "waitpid(2), ERRORS")
 reason_line e reason.NoChild = told (refusal_name (refusal_of reason.NoChild)) (codes "the starter, actor ") 1 (codes "") (codes ", has no group that the wait asks for") (codes "waitpid(2), ERRORS")

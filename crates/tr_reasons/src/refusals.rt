@@ -1,6 +1,6 @@
 ghost use Rattle.std.specs.Prelude.{◌≡◌, [], codes};
 ghost use Rattle.tr_reasons.specs.Reasons.{refusal_of};
-ghost use Rattle.tr_reasons.specs.Sentences.{errors_page, line_of, reason_line, refusal_name, told};
+ghost use Rattle.tr_reasons.specs.Sentences.{errors_page, line_of, queue_page, reason_line, refusal_name, told};
 
 use crate::reasons::{Reason, refusal_of};
 use crate::sentences::{Sentence, by_signal, plain};
@@ -45,6 +45,16 @@ fn errors_page(event: &Event) -> &'static str
         | Event::EventMessage { .. }
         | Event::SignalInfo { .. } => "ptrace(2), ERRORS",
         _ => "this model's choice",
+    }
+}
+
+/// Gives the page that lets an event meet a full queue.
+fn queue_page(event: &Event) -> &'static str
+    ensures { result.now ≡ queue_page event.now }
+{
+    match event {
+        Event::Kill { .. } => "this model's choice",
+        _ => errors_page(event),
     }
 }
 
@@ -114,7 +124,7 @@ pub(crate) fn reason_sentence(event: &Event, reason: Reason) -> Sentence
             "as many signals wait as the queue limit says, ",
             limit,
             "",
-            errors_page(event),
+            queue_page(event),
         ),
         Reason::NotRunning(tid) => because(
             reason,
@@ -177,7 +187,7 @@ pub(crate) fn reason_sentence(event: &Event, reason: Reason) -> Sentence
             "neither an interrupt nor a SIGCONT asks thread ",
             tid,
             " to stop",
-            "ptrace(2), PTRACE_INTERRUPT",
+            "this model's choice",
         ),
         Reason::NotServing(tid) => because(
             reason,
@@ -261,7 +271,7 @@ pub(crate) fn reason_sentence(event: &Event, reason: Reason) -> Sentence
             "thread ",
             tid,
             " isn't in PTRACE_EVENT_STOP",
-            "ptrace(2), PTRACE_LISTEN",
+            "this model's choice",
         ),
         Reason::NoRestartSignal(sig) => above_all_signals(reason, sig, "ptrace(2), ERRORS"),
         Reason::NoMessage(tid) => because(
@@ -269,7 +279,7 @@ pub(crate) fn reason_sentence(event: &Event, reason: Reason) -> Sentence
             "the ptrace-stop of thread ",
             tid,
             " has no message",
-            "ptrace(2), PTRACE_GETEVENTMSG",
+            "this model's choice",
         ),
         Reason::InGroupStop(tid) => because(
             reason,
@@ -283,7 +293,7 @@ pub(crate) fn reason_sentence(event: &Event, reason: Reason) -> Sentence
             "thread ",
             tid,
             " isn't in a signal-delivery-stop",
-            "ptrace(2), PTRACE_GETSIGINFO",
+            "this model's choice",
         ),
         Reason::NoTracee(actor) => because(
             reason,
