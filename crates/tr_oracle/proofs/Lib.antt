@@ -4,3 +4,4 @@ pub mod Complete
 pub mod Sound
 pub mod First
 pub mod Expecting
+pub mod Admitting

@@ -1,3 +1,4 @@
 pub mod Verdicts
 pub mod Expected
 pub mod Offers
+pub mod Ways
