@@ -4,7 +4,7 @@ _tracebox() {
   case ${COMP_WORDS[1]}:$COMP_CWORD in
     *:1) COMPREPLY=($(compgen -W 'serial threads explore explain live compare decode help -h --help -V --version' -- "$word")) ;;
     threads:*) COMPREPLY=($(compgen -W '--turns -h --help' -- "$word")) ;;
-    explore:*) COMPREPLY=($(compgen -W '--states -h --help' -- "$word")) ;;
+    explore:*) COMPREPLY=($(compgen -W '--states --free --end -h --help' -- "$word")) ;;
     serial:* | explain:* | live:* | compare:* | decode:*) COMPREPLY=($(compgen -W '-h --help' -- "$word")) ;;
     help:2) COMPREPLY=($(compgen -W 'serial threads explore explain live compare decode help' -- "$word")) ;;
   esac

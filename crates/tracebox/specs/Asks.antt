@@ -1,5 +1,5 @@
 -- What the words of a command line ask for.
-use Rattle.std.specs.Prelude.{◌≡◌, ◌⊎◌, ◌≤◌, ℕ, Bool, true, ◌&&◌, List, [], length, nat_le, codes, if◌then◌else◌, Option, Some, None, Result, Ok, Err}
+use Rattle.std.specs.Prelude.{◌≡◌, ◌⊎◌, ◌≤◌, ℕ, Bool, true, false, ◌&&◌, List, [], length, nat_le, codes, if◌then◌else◌, Option, Some, None, option_and_then, Result, Ok, Err}
 use Rattle.std.specs.Char.{is_ascii_hexdigit}
 use Rattle.std.specs.List.{list_all}
 use Rattle.std.specs.Str.{bytes_eq}
@@ -9,7 +9,7 @@ use Rattle.clap.specs.Words.{IsAmong, Kinds, Row, Text, fault_of, first_of, subc
 use Rattle.clap.specs.declared.error.kind.ErrorKind.{ErrorKind}
 use Rattle.clap.specs.declared.error.kind.ErrorKind.TheVariants as kind
 use Rattle.tracebox.specs.declared.asking.Ask.{Ask}
-use Rattle.tracebox.specs.declared.asking.Ask.TheVariants.{Serial, Threads, Explore, Explain, Live, Compare, Decode}
+use Rattle.tracebox.specs.declared.asking.Ask.TheVariants.{Serial, Threads, Explore, Replay, Explain, Live, Compare, Decode}
 use Rattle.tracebox.specs.declared.asking.AskFault.{AskFault}
 use Rattle.tracebox.specs.declared.asking.AskFault.TheVariants.{Help, Usage, NoMemory}
 use Rattle.tracebox.specs.declared.asking.Declined.{Declined}
@@ -47,31 +47,43 @@ abbrev pub turns_asked : Option Text → Result Ask AskFault
 turns_asked None = Err Usage
 turns_asked (Some t) = threads_asked (count_value t)
 
--- states ask for a search
-abbrev pub explore_asked : Option ℕ → Result Ask AskFault
-explore_asked None = Err Usage
-explore_asked (Some n) = Ok (Explore n)
+-- the number of an end asks for it
+abbrev pub replay_asked : ℕ → Option ℕ → Result Ask AskFault
+replay_asked n None = Err Usage
+replay_asked n (Some k) = Ok (Replay n k)
 
--- what N asks for
-abbrev pub states_asked : Option Text → Result Ask AskFault
-states_asked None = Err Usage
-states_asked (Some t) = explore_asked (count_value t)
+-- a flag was given
+abbrev pub is_set : Option Text → Bool
+is_set None = false
+is_set (Some t) = bytes_eq t (codes "true")
+
+-- states ask for all ends, where no end is asked for; one end isn't sought among free schedules
+abbrev pub explore_asked : Option ℕ → Bool → Option Text → Result Ask AskFault
+explore_asked None free end = Err Usage
+explore_asked (Some n) free None = Ok (Explore free n)
+explore_asked (Some n) true (Some t) = Err Usage
+explore_asked (Some n) false (Some t) = replay_asked n (count_value t)
+
+-- what N, the flag and K ask for
+abbrev pub search_asked : Option Text → Option Text → Option Text → Result Ask AskFault
+search_asked states free end = explore_asked (option_and_then count_value states) (is_set free) end
 
 -- what a subcommand asks for, by its name and the rows of its matches
 abbrev pub named : Text → List Row → Result Ask AskFault
 named name rows =
     if bytes_eq name (codes "serial") then Ok Serial
     else (if bytes_eq name (codes "threads") then turns_asked (first_of (codes "turns") rows)
-    else (if bytes_eq name (codes "explore") then states_asked (first_of (codes "states") rows)
+    else (if bytes_eq name (codes "explore") then search_asked (first_of (codes "states") rows) (first_of (codes "free") rows) (first_of (codes "end") rows)
     else (if bytes_eq name (codes "explain") then Ok Explain
     else (if bytes_eq name (codes "live") then Ok Live
     else (if bytes_eq name (codes "compare") then Ok Compare
     else (if bytes_eq name (codes "decode") then word_asked (first_of (codes "WORD") rows) else Err Usage))))))
 
--- the turns of a run by threads and the states of a search are 1 to 100,000,000
+-- the turns of a run by threads, the states of a search and the number of an end are 1 to 100,000,000
 abbrev pub HasCount : Ask → Type 0
 HasCount (Threads n) = (1 ≤ n) × (n ≤ 100000000)
-HasCount (Explore n) = (1 ≤ n) × (n ≤ 100000000)
+HasCount (Explore free n) = (1 ≤ n) × (n ≤ 100000000)
+HasCount (Replay n k) = (1 ≤ n) × (n ≤ 100000000) × (1 ≤ k) × (k ≤ 100000000)
 HasCount _ = Unit {0}
 
 -- what the subcommand asks for; without one it is Usage

@@ -1,7 +1,7 @@
 -- The command line of the program, as clap's own model has commands.
 use Rattle.std.specs.Prelude.{true, codes, Some, [], ◌∷◌}
 use Rattle.clap.specs.Words.{App, Rule, new_app, new_rule, with_rule, with_subcommand}
-use Rattle.clap.specs.declared.builder.action.ArgAction.TheVariants.{Set}
+use Rattle.clap.specs.declared.builder.action.ArgAction.TheVariants.{Set, SetTrue}
 use Rattle.clap.specs.declared.builder.value_parser.ValueParser.TheVariants.{Unsigned}
 
 -- the command by itself, which has a version and wants one of its subcommands
@@ -24,9 +24,25 @@ threads_app = with_rule (new_app (codes "threads")) turns_rule
 abbrev pub states_rule : Rule
 states_rule = record (new_rule (codes "states")) { long = Some (codes "states"); action = Some Set; value_names = 1; defaults = codes "1000000" ∷ []; parser = Some (Unsigned 1 100000000) }
 
+-- `--end K`, 1 to 100,000,000
+abbrev pub end_rule : Rule
+end_rule = record (new_rule (codes "end")) { long = Some (codes "end"); action = Some Set; value_names = 1; parser = Some (Unsigned 1 100000000) }
+
+-- `--free`
+abbrev pub free_rule : Rule
+free_rule = record (new_rule (codes "free")) { long = Some (codes "free"); action = Some SetTrue }
+
 -- `explore` may have states
+abbrev pub bounded_app : App
+bounded_app = with_rule (new_app (codes "explore")) states_rule
+
+-- be free
+abbrev pub free_app : App
+free_app = with_rule bounded_app free_rule
+
+-- and have an end
 abbrev pub explore_app : App
-explore_app = with_rule (new_app (codes "explore")) states_rule
+explore_app = with_rule free_app end_rule
 
 -- `explain` has no argument
 abbrev pub explain_app : App

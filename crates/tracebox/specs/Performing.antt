@@ -15,23 +15,25 @@ use Rattle.tr_answers.specs.Compares.{Compares}
 use Rattle.tr_live.specs.Conversations.{Converses}
 use Rattle.tr_reasons.specs.Explains.{Explains}
 use Rattle.tr_schedules.specs.Exploring.{Explores}
+use Rattle.tr_schedules.specs.Replaying.{Replays}
 use Rattle.tracebox.specs.declared.asking.Ask.{Ask}
-use Rattle.tracebox.specs.declared.asking.Ask.TheVariants.{Serial, Threads, Explore, Explain, Live, Compare, Decode}
+use Rattle.tracebox.specs.declared.asking.Ask.TheVariants.{Serial, Threads, Explore, Replay, Explain, Live, Compare, Decode}
 use Rattle.tracebox.specs.declared.asking.AskFault.{AskFault}
 use Rattle.tracebox.specs.declared.asking.AskFault.TheVariants as asking
 use Rattle.tracebox.specs.declared.faults.Fault.{Fault}
 use Rattle.tracebox.specs.declared.faults.Fault.TheVariants.{Usage, NotAWord, Scenario}
 use Rattle.tracebox.specs.declared.performing.Ending.{Ending}
-use Rattle.tracebox.specs.declared.performing.Ending.TheVariants.{Done, Differs, TooMany}
+use Rattle.tracebox.specs.declared.performing.Ending.TheVariants.{Done, Differs, NoEnd, TooMany}
 use Rattle.tracebox.specs.Asks.{Answers, Blames}
 use Rattle.tracebox.specs.Faults.{fault_line, fault_status}
 use Rattle.tracebox.specs.Meanings.{meaning_line}
 
--- 1 where an answer differs, or there are too many states
+-- 1 where an answer differs, there are too many states, or an end wasn't found
 abbrev pub ending_status : Ending → ℕ
 ending_status Done = 0
 ending_status Differs = 1
 ending_status TooMany = 1
+ending_status NoEnd = 1
 
 -- how a comparison ends
 abbrev pub ending_of : Bool → Ending
@@ -42,6 +44,11 @@ ending_of false = Differs
 abbrev pub search_ending : Bool → Ending
 search_ending true = Done
 search_ending false = TooMany
+
+-- how the search for one end ends
+abbrev pub replay_ending : Bool → Ending
+replay_ending true = Done
+replay_ending false = NoEnd
 
 -- a fault of a run is the program's
 abbrev pub run_result : Result ⊤ ScenarioFault → Result Ending Fault
@@ -57,6 +64,11 @@ comparison_result (Err e) = Err (Scenario e)
 abbrev pub search_result : Result Bool ScenarioFault → Result Ending Fault
 search_result (Ok complete) = Ok (search_ending complete)
 search_result (Err e) = Err (Scenario e)
+
+-- and one of the search for one end
+abbrev pub replay_result : Result Bool ScenarioFault → Result Ending Fault
+replay_result (Ok found) = Ok (replay_ending found)
+replay_result (Err e) = Err (Scenario e)
 
 -- once a text is written, all is done
 abbrev pub text_result : Result ⊤ Fault → Result Ending Fault
@@ -105,7 +117,8 @@ module _ {R W : Type 0} (shown : R → Shown) (taken : W → List ℕ) (failures
   abbrev pub Does : Result Ask AskFault → R → R → W → W → Result Ending Fault → Type 0
   Does (Ok Serial) r_old r_new w_old w_new result = (run : Result ⊤ ScenarioFault) × Runs (devices r_old w_old) (devices r_new w_new) run × (result ≡ run_result run)
   Does (Ok (Threads turns)) r_old r_new w_old w_new result = (run : Result ⊤ ScenarioFault) × RunsThreaded (devices r_old w_old) (devices r_new w_new) turns run × (result ≡ run_result run)
-  Does (Ok (Explore states)) r_old r_new w_old w_new result = (survey : Result Bool ScenarioFault) × Explores (devices r_old w_old) (devices r_new w_new) states survey × (result ≡ search_result survey)
+  Does (Ok (Explore free states)) r_old r_new w_old w_new result = (survey : Result Bool ScenarioFault) × Explores (devices r_old w_old) (devices r_new w_new) free states survey × (result ≡ search_result survey)
+  Does (Ok (Replay states end)) r_old r_new w_old w_new result = (replay : Result Bool ScenarioFault) × Replays (devices r_old w_old) (devices r_new w_new) states end replay × (result ≡ replay_result replay)
   Does (Ok Explain) r_old r_new w_old w_new result = (run : Result ⊤ ScenarioFault) × Explains (devices r_old w_old) (devices r_new w_new) run × (result ≡ run_result run)
   Does (Ok Live) r_old r_new w_old w_new result = (talk : Result ⊤ ScenarioFault) × Converses (devices r_old w_old) (devices r_new w_new) talk × (result ≡ run_result talk)
   Does (Ok Compare) r_old r_new w_old w_new result = (comparison : Result Bool ScenarioFault) × Compares (devices r_old w_old) (devices r_new w_new) comparison × (result ≡ comparison_result comparison)

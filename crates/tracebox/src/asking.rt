@@ -1,7 +1,7 @@
-ghost use Rattle.std.specs.Prelude.{◌≡◌, ◌⊎◌, IfOk, map, option_map};
+ghost use Rattle.std.specs.Prelude.{◌≡◌, ◌⊎◌, ◌≤◌, IfOk, IfSome, map, option_and_then, option_map};
 ghost use Rattle.clap.specs.Words.{first_of, found_of, kind_of, rows_of, subcommand_rows_of};
 ghost use Rattle.tracebox.specs.declared.asking.AskFault.TheVariants.{NoMemory};
-ghost use Rattle.tracebox.specs.Asks.{Answers, Blames, HasCount, answer_of, asked_by, fault_at, named, states_asked, turns_asked, word_asked};
+ghost use Rattle.tracebox.specs.Asks.{Answers, Blames, HasCount, answer_of, asked_by, count_value, fault_at, is_set, named, search_asked, turns_asked, word_asked};
 
 use crate::commands::command;
 use crate::numerals::{count, hexadecimal};
@@ -18,8 +18,20 @@ pub enum Ask {
     Serial,
     /// Run it by workers on threads, each with so many turns, 1 to 100,000,000.
     Threads(u64),
-    /// Explore the schedules of its workers, of at most so many states, 1 to 100,000,000.
-    Explore(u32),
+    /// Explore the schedules of its workers.
+    Explore {
+        /// Whether each call is made in every way that the model leaves open.
+        free: bool,
+        /// The most states, 1 to 100,000,000.
+        states: u32,
+    },
+    /// Seek one end of them, and tell the calls of a schedule that leads there.
+    Replay {
+        /// The most states, 1 to 100,000,000.
+        states: u32,
+        /// The number of the end, 1 to 100,000,000.
+        end: u32,
+    },
     /// Run it as `Serial`, and tell why each call is answered so.
     Explain,
     /// Hold a dialogue: answer each line on standard input.
@@ -50,9 +62,9 @@ pub struct Declined {
 }
 
 /// What the words of a command line ask for, of which the first is the program's name: `serial`; `threads`, with the
-/// turns of each worker, 100,000 where none are given; `explore`, with the most states, 1,000,000 where none are given;
-/// `explain`; `live`; `compare`; or `decode` and a word of 1 to 8 hexadecimal digits of either case without a prefix. `Usage`
-/// for a word of another form. Where `clap` doesn't take the words, `Help` if they want help or the version, with that text,
+/// turns of each worker, 100,000 where none are given; `explore`, with the most states, 1,000,000 where none are given, and
+/// either free or not, or the number of an end; `explain`; `live`; `compare`; or `decode` and a word of 1 to 8 hexadecimal
+/// digits of either case without a prefix. `Usage` for a word of another form, and for an end of free schedules. Where `clap` doesn't take the words, `Help` if they want help or the version, with that text,
 /// else `Usage`. `NoMemory` where memory is refused, also to that text.
 pub fn asked<'a, S: AsStr>(alloc: Global, words: &'a [S]) -> Result<Ask, Declined>
     ensures answers { Answers (map S.text words.entry.now) (answer_of result) }
@@ -132,7 +144,11 @@ fn named_ask(name: &str, matches: &ArgMatches<'_>) -> Result<Ask, AskFault>
     } else if name == "threads" {
         threads_ask(value(matches, "turns"))
     } else if name == "explore" {
-        explore_ask(value(matches, "states"))
+        explore_ask(
+            value(matches, "states"),
+            value(matches, "free"),
+            value(matches, "end"),
+        )
     } else if name == "explain" {
         Ok(Ask::Explain)
     } else if name == "live" {
@@ -159,16 +175,45 @@ fn threads_ask(text: Option<&str>) -> Result<Ask, AskFault>
     }
 }
 
-fn explore_ask(text: Option<&str>) -> Result<Ask, AskFault>
-    ensures asked { result ≡ states_asked (option_map (λ t. t.now) text.entry) }
+fn explore_ask(states: Option<&str>, free: Option<&str>, end: Option<&str>) -> Result<Ask, AskFault>
+    ensures asked { result
+        ≡ search_asked (option_map (λ t. t.now) states.entry)
+        (option_map (λ t. t.now) free.entry) (option_map (λ t. t.now) end.entry) }
     ensures counts { IfOk result HasCount }
+{
+    let states = small_count(states).ok_or(AskFault::Usage)?;
+    let free = is_set(free);
+    if end.is_none() {
+        return Ok(Ask::Explore { free, states });
+    }
+    if free {
+        return Err(AskFault::Usage);
+    }
+    let end = small_count(end).ok_or(AskFault::Usage)?;
+    Ok(Ask::Replay { states, end })
+}
+
+/// Whether a flag was given.
+fn is_set(text: Option<&str>) -> bool
+    ensures { result ≡ is_set (option_map (λ t. t.now) text.entry) }
+{
+    match text {
+        Some(text) => text == "true",
+        None => false,
+    }
+}
+
+/// The whole number that a text is, if there is one: 1 to 100,000,000.
+fn small_count(text: Option<&str>) -> Option<u32>
+    ensures value { result ≡ option_and_then count_value (option_map (λ t. t.now) text.entry) }
+    ensures bounds { IfSome result (λ n. (1 ≤ n) × (n ≤ 100000000)) }
 {
     match text {
         Some(text) => match count(text) {
-            Some(states) => Ok(Ask::Explore(states as u32)),
-            None => Err(AskFault::Usage),
+            Some(count) => Some(count as u32),
+            None => None,
         },
-        None => Err(AskFault::Usage),
+        None => None,
     }
 }
 

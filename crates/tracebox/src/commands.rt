@@ -1,7 +1,7 @@
 ghost use Rattle.std.specs.Prelude.{◌≡◌, IfOk, false};
 ghost use Rattle.clap.specs.Words.{app_of};
 ghost use Rattle.clap.specs.declared.builder.command.Command.TheViews.{out-Command as fields_of};
-ghost use Rattle.tracebox.specs.CommandLine.{compare_app, decode_app, explain_app, explore_app, live_app, readers_app, runs_app, scenarios_app, serial_app, telling_app, threads_app, tracebox};
+ghost use Rattle.tracebox.specs.CommandLine.{bounded_app, compare_app, decode_app, explain_app, explore_app, free_app, live_app, readers_app, runs_app, scenarios_app, serial_app, telling_app, threads_app, tracebox};
 
 use clap::builder::ValueParser;
 use clap::{Arg, ArgAction, Command};
@@ -64,12 +64,21 @@ and steps there are, and each different end: how many states have it, and a shor
 leads there, as the places of workers in the scenario, from 0; whether each worker is at its end or\n\
 where it is stuck; the status of each thread; and the totals. An end is a state from which no\n\
 schedule leads to another table, other totals or a script further on. Last comes `complete`. With\n\
-more states than N, prints only that, and the exit status is 1.";
+more states than N, prints only that, and the exit status is 1.\n\n\
+With `--free` each call is made in every way that the model leaves open: with each instance, thread\n\
+or report that it admits, where else it is made with the one that `serial` takes. A new id is always\n\
+the same. In a schedule a worker whose call is made in another way than that has the number of the\n\
+way behind its own, as `1.2`.\n\n\
+With `--end K` prints in place of that a scenario of version 1 with the same start and a step for\n\
+each call of the schedule of end K, for `serial` and `explain`; or that there is no such end, and\n\
+the exit status is 1.";
 
 const EXPLORE_END: &str = "Example:\n  \
 tracebox explore --states 1000 < scenario.json\n\
 prints first a line as `states 12 steps 20 ends 2`, and for each end a line as\n  \
-end 1 states 3 schedule 0 1 1 0";
+end 1 states 3 schedule 0 1 1 0\n\n  \
+tracebox explore --end 1 < scenario.json | tracebox serial\n\
+runs the calls of that schedule.";
 
 const EXPLAIN: &str =
     "Runs the scenario on standard input as `serial` does, and tells why each call is answered so.\n\n\
@@ -197,8 +206,8 @@ fn threads_command<'a>(alloc: Global) -> Result<Command<'a>, AllocError>
         .arg(turns)
 }
 
-fn explore_command<'a>(alloc: Global) -> Result<Command<'a>, AllocError>
-    ensures app { IfOk result (λ c. app_of c ≡ explore_app) }
+fn bounded_command<'a>(alloc: Global) -> Result<Command<'a>, AllocError>
+    ensures app { IfOk result (λ c. app_of c ≡ bounded_app) }
     ensures local { IfOk result (λ c. (fields_of c).has_globals ≡ false) }
 {
     let states = Arg::new(alloc, "states")
@@ -213,6 +222,30 @@ fn explore_command<'a>(alloc: Global) -> Result<Command<'a>, AllocError>
         .long_about(EXPLORE)
         .after_help(EXPLORE_END)
         .arg(states)
+}
+
+fn free_command<'a>(alloc: Global) -> Result<Command<'a>, AllocError>
+    ensures app { IfOk result (λ c. app_of c ≡ free_app) }
+    ensures local { IfOk result (λ c. (fields_of c).has_globals ≡ false) }
+{
+    let free = Arg::new(alloc, "free")
+        .long("free")
+        .help("Makes each call in every way that the model leaves open")
+        .action(ArgAction::SetTrue);
+    bounded_command(alloc)?.arg(free)
+}
+
+fn explore_command<'a>(alloc: Global) -> Result<Command<'a>, AllocError>
+    ensures app { IfOk result (λ c. app_of c ≡ explore_app) }
+    ensures local { IfOk result (λ c. (fields_of c).has_globals ≡ false) }
+{
+    let end = Arg::new(alloc, "end")
+        .long("end")
+        .value_name("K")
+        .help("Prints, in place of the report, a scenario that runs into end K")
+        .action(ArgAction::Set)
+        .value_parser(ValueParser::Unsigned(1, MOST));
+    free_command(alloc)?.arg(end)
 }
 
 fn explain_command<'a>(alloc: Global) -> Command<'a>

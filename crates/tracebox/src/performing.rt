@@ -3,7 +3,7 @@ ghost use Rattle.std.specs.IoError.{error_kind};
 ghost use Rattle.tr_scenario.specs.declared.faults.ScenarioFault.TheVariants as scenario;
 ghost use Rattle.tracebox.specs.declared.faults.Fault.TheVariants.{Scenario, Usage};
 ghost use Rattle.tracebox.specs.Faults.{fault_status};
-ghost use Rattle.tracebox.specs.Performing.{Attempts, Declines, Decodes, Ends, Performs, Says, Tells, ending_of, ending_status, search_ending};
+ghost use Rattle.tracebox.specs.Performing.{Attempts, Declines, Decodes, Ends, Performs, Says, Tells, ending_of, ending_status, replay_ending, search_ending};
 
 use crate::asking::{Ask, AskFault, Declined, asked};
 use crate::faults::{Fault, words_fault};
@@ -17,7 +17,7 @@ use tr_answers::compare;
 use tr_live::converse;
 use tr_reasons::explain;
 use tr_scenario::{ScenarioFault, Source, serial, threaded};
-use tr_schedules::explore_schedules;
+use tr_schedules::{explore_schedules, replay_end};
 use tr_status::{Sink, put_all};
 use tr_wait::{Word, decode};
 
@@ -30,25 +30,27 @@ pub enum Ending {
     Differs,
     /// There are more states than may be looked at.
     TooMany,
+    /// The end that was sought wasn't found.
+    NoEnd,
 }
 
 impl Ending {
-    /// The exit status: 1 where an answer differs or there are too many states.
+    /// The exit status: 1 where an answer differs, there are too many states, or an end wasn't found.
     pub fn status(self) -> u8
         ensures { result ≡ ending_status self }
     {
         match self {
             Ending::Done => 0,
-            Ending::Differs | Ending::TooMany => 1,
+            Ending::Differs | Ending::TooMany | Ending::NoEnd => 1,
         }
     }
 }
 
 /// Does what the words of a command line ask for, of which the first is the program's name, and gives the exit status:
 /// 0, also after help, which goes to the writer; 1 for a refused input, a word that no status has, a run that doesn't
-/// settle, too many states or a record of which an answer differs, 2 for a command line that the program doesn't take, 3 where memory is
-/// refused or the reader or the writer fails. A fault goes to `faults` by its name. Where that can't be written the
-/// status stays.
+/// settle, too many states, an end that isn't there or a record of which an answer differs, 2 for a command line that the
+/// program doesn't take, 3 where memory is refused or the reader or the writer fails. A fault goes to `faults` by its name.
+/// Where that can't be written the status stays.
 pub fn perform<T: AllocGlobal + Threads + Wait + Sync, S: AsStr, R: Source, W: Sink, E: Sink>(
     rt: &T,
     words: &[S],
@@ -123,8 +125,11 @@ fn attempt<T: Threads + Wait + Sync, S: AsStr, R: Source, W: Sink>(
     match asked(alloc, words) {
         Ok(Ask::Serial) => serial(alloc, reader, writer)?,
         Ok(Ask::Threads(turns)) => threaded(rt, alloc, reader, writer, turns)?,
-        Ok(Ask::Explore(states)) => {
-            return Ok(search_ending(explore_schedules(alloc, reader, writer, states)?));
+        Ok(Ask::Explore { free, states }) => {
+            return Ok(search_ending(explore_schedules(alloc, reader, writer, free, states)?));
+        }
+        Ok(Ask::Replay { states, end }) => {
+            return Ok(replay_ending(replay_end(alloc, reader, writer, states, end)?));
         }
         Ok(Ask::Explain) => explain(alloc, reader, writer)?,
         Ok(Ask::Live) => converse(alloc, reader, writer)?,
@@ -155,6 +160,13 @@ fn search_ending(complete: bool) -> Ending
     } else {
         Ending::TooMany
     }
+}
+
+/// How the search for one end ends.
+fn replay_ending(found: bool) -> Ending
+    ensures { result ≡ replay_ending found }
+{
+    if found { Ending::Done } else { Ending::NoEnd }
 }
 
 /// Writes the status that a word has.

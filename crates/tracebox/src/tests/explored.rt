@@ -57,3 +57,52 @@ fn what_is_refused_is_not_explored(rt: HostRuntime) {
     let run = done(&rt, &EXPLORE, SENDS.as_bytes(), unwritten);
     expect_outcome(&rt, &run, (3, "", "tracebox: WriteFault\n"));
 }
+
+/// The calls of the schedule of the end of `SENDS`.
+const CALLS: &str =
+    "{\"entries\":9,\"groups\":[{\"actions\":[],\"name\":\"demo\",\"tgid\":10,\"threads\":[{\"blocked\":[],\"tid\":10}]}],\"limit\":4,\"steps\":[{\"actor\":900,\"do\":\"kill\",\"sig\":10,\"tgid\":10},{\"actor\":901,\"do\":\"kill\",\"sig\":12,\"tgid\":10}],\"version\":1}\n";
+
+#[test]
+fn an_end_is_replayed(rt: HostRuntime) {
+    let words = ["tracebox", "explore", "--end", "1"];
+    expect(&rt, &words, SENDS, (0, CALLS, ""));
+    let serial = done(&rt, &["tracebox", "serial"], CALLS.as_bytes(), SOUND);
+    same(&rt, &serial.status, &0);
+    assert!(rt; text(&serial.written).contains("totals accepted 2 pending 2"));
+}
+
+#[test]
+fn an_end_is_missing(rt: HostRuntime) {
+    let words = ["tracebox", "explore", "--end", "2"];
+    expect(&rt, &words, SENDS, (1, "no end 2 of 1\n", ""));
+    let words = ["tracebox", "explore", "--states", "4", "--end", "1"];
+    expect(&rt, &words, SENDS, (1, "more than 4 states\n", ""));
+    let words = ["tracebox", "explore", "--end", "0"];
+    expect(&rt, &words, SENDS, (2, "", "tracebox: Usage\n"));
+    let words = ["tracebox", "explore", "--end", "1"];
+    expect(&rt, &words, "{", (1, "", "tracebox: NotJson\n"));
+    let unwritten = Ways {
+        failing_put: 1,
+        ..SOUND
+    };
+    let run = done(&rt, &words, SENDS.as_bytes(), unwritten);
+    expect_outcome(&rt, &run, (3, "", "tracebox: WriteFault\n"));
+}
+
+/// A traced thread and another, and a send to their group that either may take.
+const EITHER: &str =
+    r#"{"version":1,"limit":4,"entries":99,"groups":[{"tgid":10,"name":"demo","threads":[{"tid":10,"blocked":[]},{"tid":11,"blocked":[]}],"actions":[{"sig":10,"how":"catch"}]}],"steps":[{"actor":900,"do":"seize","tid":11,"options":[]},{"actor":900,"do":"kill","tgid":10,"sig":10},{"actor":900,"do":"take_any","tgid":10}]}"#;
+
+#[test]
+fn open_choices_are_explored(rt: HostRuntime) {
+    let run = done(&rt, &EXPLORE, EITHER.as_bytes(), SOUND);
+    same(&rt, &run.status, &0);
+    assert!(rt; text(&run.written).contains("states 4 steps 3 ends 1\n"));
+    let free = ["tracebox", "explore", "--free"];
+    let run = done(&rt, &free, EITHER.as_bytes(), SOUND);
+    same(&rt, &run.status, &0);
+    assert!(rt; text(&run.written).contains("states 5 steps 4 ends 2\n"));
+    assert!(rt; text(&run.written).contains("\nend 2 states 1 schedule 0 0 0.1\n"));
+    let end = ["tracebox", "explore", "--free", "--end", "1"];
+    expect(&rt, &end, EITHER, (2, "", "tracebox: Usage\n"));
+}
