@@ -11,7 +11,7 @@ ghost use Rattle.tr_kernel.specs.Private.{admits_told, reply_without_send};
 
 use tr_model::{Choice, Event, Fate, Refusal, Reply, Same, Target};
 use tr_requests::{admits_starter_wait, admits_wait, waited_by, waited_by_starter};
-use tr_signals::{admits_take, admits_take_any, took};
+use tr_signals::{admits_take, admits_take_any, took_reply};
 use tr_sigset::Signal;
 use tr_steps::Step;
 use tr_table::Table;
@@ -130,8 +130,8 @@ pub(crate) fn reply_without_send(table: &Table, actor: u32, event: &Event, choic
     let n = choice.instance().unwrap_or(0);
     let report = choice.report().unwrap_or(0);
     match event {
-        Event::Take { tid } => took(table, *tid, n),
-        Event::TakeAny { .. } => took(table, choice.thread().unwrap_or(0), n),
+        Event::Take { tid } => took_reply(table, *tid, n),
+        Event::TakeAny { .. } => took_reply(table, choice.thread().unwrap_or(0), n),
         Event::CloneThread { .. } => Reply::Cloned {
             tid: choice.new_id().unwrap_or(0),
         },

@@ -7,7 +7,7 @@ ghost use Rattle.tr_model.specs.Steps.{takes, took_reply};
 ghost use Rattle.tr_model.specs.Tables.{thread_of};
 
 use crate::kills::is_in;
-use crate::takes::did;
+use crate::takes::did_at_take;
 use tr_model::{Reply, Target};
 use tr_table::Table;
 use tr_tracee::Thread;
@@ -41,7 +41,7 @@ pub fn admits_take_any(table: &Table, tgid: u32, tid: u32, n: u64) -> bool
 }
 
 /// What a take of the pending instance of a number by a thread tells.
-pub fn took(table: &Table, tid: u32, n: u64) -> Reply
+pub fn took_reply(table: &Table, tid: u32, n: u64) -> Reply
     ensures { result
         ≡ took_reply table.now.table (thread_of table.now.table tid)
         (instance_in table.now.table.waiting n) }
@@ -55,6 +55,6 @@ pub fn took(table: &Table, tid: u32, n: u64) -> Reply
     Reply::Took {
         tid: thread.id,
         inst: instance,
-        did: did(table, thread, &instance),
+        did: did_at_take(table, thread, &instance),
     }
 }

@@ -60,7 +60,7 @@ pub fn check_take(table: &Table, tid: u32) -> Result<Checked, Refusal>
 }
 
 /// What a thread does with an instance that it takes: a tracee reports it, and others act by the action.
-pub fn did(table: &Table, thread: &Thread, instance: &Instance) -> Did
+pub fn did_at_take(table: &Table, thread: &Thread, instance: &Instance) -> Did
     ensures { result ≡ did_at_take table.now.table thread.now instance.now }
 {
     if thread.is_traced() {
@@ -107,7 +107,7 @@ pub(crate) fn take_due(
     ensures err { OnErr result (step.new.work.table ≡ step.old.work.table) }
 {
     let queue = step.table().target_of(instance.n).unwrap();
-    let did = did(step.table(), thread, instance);
+    let did = did_at_take(step.table(), thread, instance);
     step.begin(2)?;
     step.take_from(queue);
     take_instance(step, thread, instance, did);
