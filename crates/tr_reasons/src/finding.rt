@@ -7,9 +7,10 @@ ghost use Rattle.tr_reasons.specs.declared.reasons.Reason.TheVariants.{NotLeavin
 ghost use Rattle.tr_tracee.specs.Lives.{is_leaving};
 
 use crate::reasons::Reason;
-use tr_model::Event;
+use tr_model::{Event, MOST_MEMBERS, MOST_THREADS};
 use tr_requests::check_starter_wait;
-use tr_signals::script;
+use tr_signals::{GREATEST_SIGNAL, LEAST_REAL_TIME, script};
+use tr_sigset::Signal;
 use tr_table::Table;
 use tr_tracee::{Life, Stop, Thread};
 use tr_wait::{WaitFlags, Which};
@@ -19,7 +20,7 @@ use tr_wait::{WaitFlags, Which};
 fn above_all_signals(sig: u8) -> Option<Reason>
     ensures { result ≡ above_all_signals sig }
 {
-    if sig > 64 {
+    if sig > GREATEST_SIGNAL {
         Some(Reason::NoSignal(sig))
     } else {
         None
@@ -48,7 +49,7 @@ fn member_missing(table: &Table, tgid: u32, tid: u32) -> Option<Reason>
 fn over_limit(table: &Table, sig: u8) -> Option<Reason>
     ensures { result ≡ over_limit table.now.table sig }
 {
-    if sig >= 32 && table.queued() >= table.limit() as usize {
+    if sig >= LEAST_REAL_TIME && table.queued() >= table.limit() as usize {
         Some(Reason::QueueFull(table.limit()))
     } else {
         None
@@ -102,7 +103,11 @@ fn own_at(table: &Table, tid: u32) -> Option<Reason>
 fn action_fixed(sig: u8) -> Option<Reason>
     ensures { result ≡ action_fixed sig }
 {
-    if sig == 0 || sig == 9 || sig == 19 || sig > 64 {
+    if sig == 0
+        || sig == Signal::KILL.number()
+        || sig == Signal::STOP.number()
+        || sig > GREATEST_SIGNAL
+    {
         Some(Reason::FixedAction(sig))
     } else {
         None
@@ -133,9 +138,9 @@ fn set_action_at(table: &Table, tid: u32, sig: u8) -> Option<Reason>
 fn full(table: &Table, thread: &Thread) -> Option<Reason>
     ensures { result ≡ full table.now.table thread.now }
 {
-    if table.thread_count() >= 1024 {
+    if table.thread_count() >= MOST_THREADS {
         Some(Reason::TableFull)
-    } else if table.member_count(thread.group) >= 64 {
+    } else if table.member_count(thread.group) >= MOST_MEMBERS {
         Some(Reason::GroupFull(thread.group))
     } else {
         None
@@ -303,7 +308,7 @@ fn stopped_at(table: &Table, actor: u32, tid: u32) -> Option<Reason>
 fn no_restart(sig: u8) -> Option<Reason>
     ensures { result ≡ no_restart sig }
 {
-    if sig > 64 {
+    if sig > GREATEST_SIGNAL {
         Some(Reason::NoRestartSignal(sig))
     } else {
         None
