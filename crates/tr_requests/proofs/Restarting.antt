@@ -12,10 +12,11 @@ use Rattle.tr_model.specs.declared.replies.Refusal.{Refusal}
 use Rattle.tr_model.specs.declared.replies.Refusal.TheVariants.{Io, Srch}
 use Rattle.tr_model.specs.Causes.{cause_unless_stopped, first_cause, refused_if, thread_then, unless}
 use Rattle.tr_model.specs.Moves.{Work, at, on_thread}
-use Rattle.tr_model.specs.Preferred.{quiet_or, refused_or}
+use Rattle.tr_model.specs.declared.events.Event.TheVariants.{Cont}
+use Rattle.tr_model.specs.Preferred.{check, quiet_or, refused_or}
 use Rattle.tr_model.specs.Restarts.{restart, restart_held}
 use Rattle.tr_model.specs.Tables.{Table, thread_of}
-use Rattle.tr_requests.specs.Private.{restart_by, restart_checked, restart_from}
+use Rattle.tr_requests.specs.Private.{restart_by, restart_from}
 
 -- A number as a signal, none for 0
 
@@ -55,7 +56,7 @@ pub refused_due : (why : Refusal) (c : Choice) → Err why ≡ Ok (Due c) → �
 refused_due why c e = cc
 
 -- a restart that is due has a number up to 64
-pub due_at_most : (T : Table) (a id s : ℕ) → restart_checked T a id s ≡ Ok (Due no_choice) → s ≤ 64
+pub due_at_most : (T : Table) (a id s : ℕ) → check T a (Cont id s) ≡ Ok (Due no_choice) → s ≤ 64
 due_at_most T a id s e = go (thread_of T id) e
   where
     by : (x b : Bool) → nat_lt 64 s ≡ b → refused_or (first_cause (unless x Srch ∷ refused_if b Io ∷ [])) (quiet_or None no_choice) ≡ Ok (Due no_choice) → s ≤ 64

@@ -1,20 +1,16 @@
 -- What private functions answer: no public contract cites these.
-use Rattle.std.specs.Prelude.{Bool, List, None, Option, Result, Some, [], filter, if◌then◌else◌, is_some, nat_lt, not, pos, ℕ, ◌&&◌, ◌==◌, ◌∷◌}
-use Rattle.tr_model.specs.Causes.{cause_unless_stopped, first_cause, refused_if, traceable, with_thread}
+use Rattle.std.specs.Prelude.{Bool, List, None, Option, Some, [], filter, if◌then◌else◌, is_some, not, pos, ℕ, ◌&&◌, ◌==◌, ◌∷◌}
 use Rattle.tr_model.specs.Ends.{pass_on, remove_thread, word_of_end}
 use Rattle.tr_model.specs.Execs.{break_others, trap_new}
 use Rattle.tr_model.specs.Moves.{Work, alter, enqueue, enter}
-use Rattle.tr_model.specs.Preferred.{quiet_or, refused_or}
 use Rattle.tr_model.specs.Restarts.{inject, resume, untrace}
 use Rattle.tr_model.specs.Sends.{info, send}
-use Rattle.tr_model.specs.Choices.{gives_report, no_choice}
+use Rattle.tr_model.specs.Choices.{gives_report}
 use Rattle.tr_model.specs.Tables.{Table, thread_of}
 use Rattle.tr_model.specs.Takes.{act_on}
 use Rattle.tr_model.specs.declared.checked.Checked.{Checked}
 use Rattle.tr_model.specs.declared.checked.Checked.TheVariants.{Due, Quiet}
 use Rattle.tr_model.specs.declared.fates.Fate.TheVariants.{Delivered, Flushed, Suppressed}
-use Rattle.tr_model.specs.declared.replies.Refusal.{Refusal}
-use Rattle.tr_model.specs.declared.replies.Refusal.TheVariants.{Io}
 use Rattle.tr_model.specs.declared.replies.Reply.TheVariants.{Nothing}
 use Rattle.tr_model.specs.declared.rows.Group.{Group}
 use Rattle.tr_pending.specs.declared.instance.Instance.{Instance}
@@ -56,10 +52,6 @@ leave_or_stop t e w = if (options_of t.trace).exit then enter t.id (stop.Exit (w
 
 -- Restarts, by the signal that the tracer gives: none for 0
 
--- what a check answers of a restart with this number
-abbrev pub restart_checked : Table → ℕ → ℕ → ℕ → Result Checked Refusal
-restart_checked T a id s = refused_or (first_cause (with_thread T id (λ t. cause_unless_stopped a t ∷ refused_if (nat_lt 64 s) Io ∷ []))) (quiet_or None no_choice)
-
 -- from a signal-delivery-stop that holds the instance
 abbrev pub restart_by : Thread → Option ℕ → Instance → Work → Work
 restart_by t None i w = resume Suppressed t w
@@ -89,10 +81,6 @@ abbrev pub to_kill_among : List Thread → ℕ → List Thread
 to_kill_among ts a = filter (is_to_kill a) ts
 
 -- Tracing
-
--- what a check answers of an attach or a seizure
-abbrev pub attach_checked : Table → ℕ → Result Checked Refusal
-attach_checked T id = refused_or (first_cause (with_thread T id (λ t. traceable T t ∷ []))) (quiet_or None no_choice)
 
 -- SIGSTOP, by the kernel
 abbrev pub attach_sends : Thread → Work → Work

@@ -101,7 +101,7 @@ fn exit_group_at(step: &mut Step, tid: u32, code: u32)
 pub fn check_exit_group(table: &Table, tid: u32, code: u32) -> Result<Checked, Refusal>
     ensures { (actor : ℕ) → result ≡ check table.now.table actor (ExitGroup tid code) }
 {
-    check_script(table, tid)
+    check_exit(table, tid, code)
 }
 
 /// An exit of a thread's group that is due: exit_group(2), with the low byte of the code. Where memory is refused, or the

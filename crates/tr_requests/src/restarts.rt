@@ -11,7 +11,7 @@ ghost use Rattle.tr_model.specs.Restarts.{inject, listen, tracer_number, untrace
 ghost use Rattle.tr_model.specs.Choices.{no_choice};
 ghost use Rattle.tr_model.specs.Tables.{thread_of};
 ghost use Rattle.tr_steps.specs.UnderWay.{IsStepOf, Moves, entry};
-ghost use Rattle.tr_requests.specs.Private.{detach_from, restart_by, restart_checked, restart_from};
+ghost use Rattle.tr_requests.specs.Private.{detach_from, restart_by, restart_from};
 
 use crate::tracing::stopped;
 use std::alloc::AllocError;
@@ -90,8 +90,10 @@ fn restart_at(step: &mut Step, tid: u32, signal: Option<Signal>)
     }
 }
 
-fn check_restart(table: &Table, actor: u32, tid: u32, sig: u8) -> Result<Checked, Refusal>
-    ensures { result ≡ restart_checked table.now.table actor tid sig }
+/// Whether a restart of a tracee is refused or due: ESRCH where the thread isn't a tracee of the actor in a ptrace-stop,
+/// then EIO for a signal above 64.
+pub fn check_cont(table: &Table, actor: u32, tid: u32, sig: u8) -> Result<Checked, Refusal>
+    ensures { result ≡ check table.now.table actor (Cont tid sig) }
 {
     let Some(thread) = table.find(tid) else {
         return Err(Refusal::Srch);
@@ -103,14 +105,6 @@ fn check_restart(table: &Table, actor: u32, tid: u32, sig: u8) -> Result<Checked
         return Err(Refusal::Io);
     }
     Ok(Checked::Due(Choice::NONE))
-}
-
-/// Whether a restart of a tracee is refused or due: ESRCH where the thread isn't a tracee of the actor in a ptrace-stop,
-/// then EIO for a signal above 64.
-pub fn check_cont(table: &Table, actor: u32, tid: u32, sig: u8) -> Result<Checked, Refusal>
-    ensures { result ≡ check table.now.table actor (Cont tid sig) }
-{
-    check_restart(table, actor, tid, sig)
 }
 
 /// A restart of a tracee that is due: `PTRACE_CONT`. A report that no wait has consumed is withdrawn. From a
@@ -161,7 +155,7 @@ fn detach_at(step: &mut Step, tid: u32, signal: Option<Signal>)
 pub fn check_detach(table: &Table, actor: u32, tid: u32, sig: u8) -> Result<Checked, Refusal>
     ensures { result ≡ check table.now.table actor (Detach tid sig) }
 {
-    check_restart(table, actor, tid, sig)
+    check_cont(table, actor, tid, sig)
 }
 
 /// A detach from a tracee that is due: `PTRACE_DETACH`, a restart as by `PTRACE_CONT`, after which nobody traces the

@@ -9,7 +9,7 @@ ghost use Rattle.tr_model.specs.Preferred.{check};
 ghost use Rattle.tr_model.specs.Tracing.{attach, seize, trace};
 ghost use Rattle.tr_model.specs.Choices.{no_choice};
 ghost use Rattle.tr_steps.specs.UnderWay.{IsStepOf, Moves, entry};
-ghost use Rattle.tr_requests.specs.Private.{attach_checked, attach_sends};
+ghost use Rattle.tr_requests.specs.Private.{attach_sends};
 
 use std::alloc::AllocError;
 use tr_model::{Checked, Choice, Refusal, Reply, Target};
@@ -84,8 +84,10 @@ fn attach_at(step: &mut Step, actor: u32, tid: u32)
     }
 }
 
-fn check_traceable(table: &Table, tid: u32) -> Result<Checked, Refusal>
-    ensures { result ≡ attach_checked table.now.table tid }
+/// Whether an attach to a thread is refused or due: ESRCH where there is no such thread, then EPERM where it is traced,
+/// not live, or its group is dying.
+pub fn check_attach(table: &Table, tid: u32) -> Result<Checked, Refusal>
+    ensures { (actor : ℕ) → result ≡ check table.now.table actor (Attach tid) }
 {
     let Some(thread) = table.find(tid) else {
         return Err(Refusal::Srch);
@@ -94,14 +96,6 @@ fn check_traceable(table: &Table, tid: u32) -> Result<Checked, Refusal>
         Some(why) => Err(why),
         None => Ok(Checked::Due(Choice::NONE)),
     }
-}
-
-/// Whether an attach to a thread is refused or due: ESRCH where there is no such thread, then EPERM where it is traced,
-/// not live, or its group is dying.
-pub fn check_attach(table: &Table, tid: u32) -> Result<Checked, Refusal>
-    ensures { (actor : ℕ) → result ≡ check table.now.table actor (Attach tid) }
-{
-    check_traceable(table, tid)
 }
 
 /// An attach that is due: `PTRACE_ATTACH`. The actor traces the thread, which is sent SIGSTOP; a stopped thread is then
@@ -142,7 +136,7 @@ fn seize_at(step: &mut Step, actor: u32, options: Options, tid: u32)
 pub fn check_seize(table: &Table, tid: u32, options: Options) -> Result<Checked, Refusal>
     ensures { (actor : ℕ) → result ≡ check table.now.table actor (Seize tid options) }
 {
-    check_traceable(table, tid)
+    check_attach(table, tid)
 }
 
 /// A seizure that is due: `PTRACE_SEIZE`. The actor traces the thread, with these options; nothing is sent. A stopped

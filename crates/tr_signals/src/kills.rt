@@ -142,7 +142,7 @@ pub fn tgkill(
 pub fn check_sigqueue(table: &Table, tgid: u32, sig: u8, value: i32) -> Result<Checked, Refusal>
     ensures { (actor : ℕ) → result ≡ check table.now.table actor (Sigqueue tgid sig value) }
 {
-    check_send(table, table.group(tgid).is_some(), sig)
+    check_kill(table, tgid, sig)
 }
 
 /// A sigqueue(3) that is due: `SI_QUEUE`, by the actor, with a value. Where memory is refused, or the numbers are used
