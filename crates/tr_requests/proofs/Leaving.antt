@@ -14,18 +14,15 @@ use Rattle.tr_model.specs.Tracers.{tracees}
 use Rattle.tr_model.specs.Choices.{no_choice}
 use Rattle.tr_model.specs.Tables.{Table}
 use Rattle.tr_requests.proofs.Firsts.{any_is_left}
-use Rattle.tr_requests.specs.Private.{to_kill_among, tracees_among}
+use Rattle.tr_requests.specs.Private.{is_to_kill}
 
-pub killed_of_tracees : (a : ℕ) (ts : List Thread) → to_kill_among ts a ≡ filter (λ t. (options_of t.trace).exitkill && not (is_dead t.life)) (tracees_among ts a)
+pub killed_of_tracees : (a : ℕ) (ts : List Thread) → filter (is_to_kill a) ts ≡ filter (λ t. (options_of t.trace).exitkill && not (is_dead t.life)) (filter (is_tracee_of a) ts)
 killed_of_tracees a [] = refl
 killed_of_tracees a (t ∷ ts) = go (is_tracee_of a t) (killed_of_tracees a ts)
   where
-    p : Thread → Bool
-    p t = (options_of t.trace).exitkill && not (is_dead t.life)
-
-    go : (b : Bool) → to_kill_among ts a ≡ filter (λ t. (options_of t.trace).exitkill && not (is_dead t.life)) (tracees_among ts a)
-        → (if b && ((options_of t.trace).exitkill && not (is_dead t.life)) then t ∷ to_kill_among ts a else to_kill_among ts a)
-        ≡ filter (λ t. (options_of t.trace).exitkill && not (is_dead t.life)) (if b then t ∷ tracees_among ts a else tracees_among ts a)
+    go : (b : Bool) → filter (is_to_kill a) ts ≡ filter (λ t. (options_of t.trace).exitkill && not (is_dead t.life)) (filter (is_tracee_of a) ts)
+        → (if b && ((options_of t.trace).exitkill && not (is_dead t.life)) then t ∷ filter (is_to_kill a) ts else filter (is_to_kill a) ts)
+        ≡ filter (λ t. (options_of t.trace).exitkill && not (is_dead t.life)) (if b then t ∷ filter (is_tracee_of a) ts else filter (is_tracee_of a) ts)
     go true h = ap (λ us. if (options_of t.trace).exitkill && not (is_dead t.life) then t ∷ us else us) h
     go false h = h
 

@@ -72,14 +72,6 @@ detach_from t o w = untrace t (restart_from t o (held t.life) w)
 abbrev pub is_to_kill : ℕ → Thread → Bool
 is_to_kill a t = is_tracee_of a t && ((options_of t.trace).exitkill && not (is_dead t.life))
 
--- the tracees of the actor among these
-abbrev pub tracees_among : List Thread → ℕ → List Thread
-tracees_among ts a = filter (is_tracee_of a) ts
-
--- those of them that are to be killed
-abbrev pub to_kill_among : List Thread → ℕ → List Thread
-to_kill_among ts a = filter (is_to_kill a) ts
-
 -- Tracing
 
 -- SIGSTOP, by the kernel

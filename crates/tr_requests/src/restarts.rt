@@ -26,10 +26,7 @@ use tr_tracee::Thread;
 fn tracer_of(thread: &Thread) -> u32
     ensures { result ≡ tracer_number (tracer_of thread.now.trace) }
 {
-    match &thread.trace {
-        Some(trace) => trace.tracer,
-        None => 0,
-    }
+    thread.trace.map_or(0, |trace| trace.tracer)
 }
 
 /// A new instance, from the tracer: it waits for the thread where that blocks it, else the thread acts on it.

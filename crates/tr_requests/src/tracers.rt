@@ -1,6 +1,6 @@
 //! What becomes of the tracees of a tracer that ends: "PTRACE_O_EXITKILL" and "Attaching and detaching" of ptrace(2).
 
-ghost use Rattle.std.specs.Prelude.{◌≡◌, ◌≤◌, ◌*◌, IfOk, Ok, OnErr, Some, length};
+ghost use Rattle.std.specs.Prelude.{◌≡◌, ◌≤◌, ◌*◌, IfOk, Ok, OnErr, Some, filter, length};
 ghost use Rattle.std.specs.List.{list_any};
 ghost use Rattle.tr_tracee.specs.Lives.{held};
 ghost use Rattle.tr_tracee.specs.Threads.{is_tracee_of};
@@ -9,11 +9,11 @@ ghost use Rattle.tr_model.specs.declared.events.Event.TheVariants.{TracerExit};
 ghost use Rattle.tr_model.specs.Moves.{at, each};
 ghost use Rattle.tr_model.specs.Preferred.{check};
 ghost use Rattle.tr_model.specs.Restarts.{detach};
-ghost use Rattle.tr_model.specs.Tracers.{exit_kill, held_signal, leave_tracer, lose_tracer};
+ghost use Rattle.tr_model.specs.Tracers.{exit_kill, held_signal, leave_tracer, lose_tracer, tracees};
 ghost use Rattle.tr_model.specs.Choices.{no_choice};
 ghost use Rattle.tr_model.specs.Tables.{ids_of, thread_of};
 ghost use Rattle.tr_steps.specs.UnderWay.{IsStepOf, Moves, entry};
-ghost use Rattle.tr_requests.specs.Private.{is_to_kill, to_kill_among, tracees_among};
+ghost use Rattle.tr_requests.specs.Private.{is_to_kill};
 
 use crate::restarts::detach_thread;
 use crate::waits::consume_death;
@@ -31,10 +31,11 @@ fn is_to_kill(thread: &Thread, actor: u32) -> bool
 }
 
 /// The ids of an actor's tracees, in table order.
-fn tracees(threads: &[Thread], alloc: Global, actor: u32) -> Result<Vec<u32>, AllocError>
-    ensures { IfOk result (λ v. v.items ≡ ids_of (tracees_among threads.now actor)) }
+fn tracees(table: &Table, alloc: Global, actor: u32) -> Result<Vec<u32>, AllocError>
+    ensures { IfOk result (λ v. v.items ≡ ids_of (tracees table.now.table actor)) }
 {
-    threads
+    table
+        .threads()
         .iter()
         .filter(|t| t.is_tracee_of(actor))
         .map(|t| t.id)
@@ -42,10 +43,11 @@ fn tracees(threads: &[Thread], alloc: Global, actor: u32) -> Result<Vec<u32>, Al
 }
 
 /// The ids of an actor's tracees that are to be killed as it ends, in table order.
-fn to_kill(threads: &[Thread], alloc: Global, actor: u32) -> Result<Vec<u32>, AllocError>
-    ensures { IfOk result (λ v. v.items ≡ ids_of (to_kill_among threads.now actor)) }
+fn to_kill(table: &Table, alloc: Global, actor: u32) -> Result<Vec<u32>, AllocError>
+    ensures { IfOk result (λ v. v.items ≡ ids_of (filter (is_to_kill actor) table.now.table.threads)) }
 {
-    threads
+    table
+        .threads()
         .iter()
         .filter(|t| is_to_kill(t, actor))
         .map(|t| t.id)
@@ -77,10 +79,7 @@ fn held_number(thread: &Thread) -> u8
     ensures number { result ≡ held_signal (held thread.now.life) }
     ensures few { result ≤ 64 }
 {
-    match thread.life.held() {
-        Some(held) => held.sig.number(),
-        None => 0,
-    }
+    thread.life.held().map_or(0, |held| held.sig.number())
 }
 
 fn leave_living(step: &mut Step, thread: &Thread)
@@ -154,8 +153,8 @@ pub fn tracer_exit(step: &mut Step, alloc: Global, actor: u32) -> Result<Reply, 
     ensures did { IfOk result (IsStepOf step.old.work.table (entry actor TracerExit) step.new) }
     ensures err { OnErr result (step.new.work.table ≡ step.old.work.table) }
 {
-    let killed = to_kill(step.table().threads(), alloc, actor)?;
-    let left = tracees(step.table().threads(), alloc, actor)?;
+    let killed = to_kill(step.table(), alloc, actor)?;
+    let left = tracees(step.table(), alloc, actor)?;
     step.begin(3 * killed.len() + 3 * left.len())?;
     kill_each(step, &killed);
     leave_each(step, actor, &left);

@@ -1,16 +1,15 @@
 //! Waits of a tracer: waitpid(2) with `__WALL`, and "Death under ptrace" of ptrace(2).
 
-ghost use Rattle.std.specs.Prelude.{◌≡◌, ◌≤◌, IfOk, None, OnErr, flat_map, option_copied};
+ghost use Rattle.std.specs.Prelude.{◌≡◌, ◌≤◌, IfOk, None, OnErr, option_copied};
 ghost use Rattle.tr_model.specs.Compare.{Permits};
 ghost use Rattle.tr_model.specs.declared.events.Event.TheVariants.{Wait};
 ghost use Rattle.tr_model.specs.Moves.{on_thread};
 ghost use Rattle.tr_model.specs.Preferred.{check};
 ghost use Rattle.tr_model.specs.Steps.{waited, waited_note, waited_thread};
 ghost use Rattle.tr_model.specs.Choices.{gives_report};
-ghost use Rattle.tr_model.specs.Waits.{consume, has_report, report_number, with_report};
+ghost use Rattle.tr_model.specs.Waits.{consume, has_report, ready, ready_thread, report_number};
 ghost use Rattle.tr_steps.specs.UnderWay.{IsStepOf, Moves};
 ghost use Rattle.tr_requests.specs.Private.{consume_death, due_report, first_number};
-ghost use Rattle.tr_requests.specs.Waits.{asked_among};
 
 use crate::ends::{pass_on, remove_thread};
 use std::alloc::AllocError;
@@ -33,27 +32,21 @@ pub(crate) fn giving(ready: Option<u64>) -> Checked
 pub(crate) fn number_of(report: &Option<Report>) -> Option<u64>
     ensures { result ≡ first_number (report_number report.now) }
 {
-    match report {
-        Some(report) => Some(report.number),
-        None => None,
-    }
+    report.as_ref().map(|report| report.number)
 }
 
 pub(crate) fn is_numbered(report: &Option<Report>, number: u64) -> bool
     ensures { result ≡ has_report number report.now }
 {
-    match report {
-        Some(report) => report.number == number,
-        None => false,
-    }
+    report
+        .as_ref()
+        .is_some_and(|report| report.number == number)
 }
 
 /// The first report, in table order, of the actor's tracees that it asks for.
 #[tactic(auto, using(crate::proofs::Firsts::first_reported))]
 fn first_ready(table: &Table, actor: u32, which: Which) -> Option<u64>
-    ensures { result
-        ≡ first_number
-        (flat_map (λ t. report_number t.report) (asked_among table.now.table.threads actor which)) }
+    ensures { result ≡ first_number (ready table.now.table actor which) }
 {
     let thread = table.reported(actor, which, None)?;
     number_of(&thread.report)
@@ -62,8 +55,7 @@ fn first_ready(table: &Table, actor: u32, which: Which) -> Option<u64>
 /// The first of the actor's tracees that it asks for that has the report of this number.
 #[tactic(auto, using(crate::proofs::Firsts::with_number))]
 pub fn ready_thread(table: &Table, actor: u32, which: Which, number: u64) -> Option<&Thread>
-    ensures { option_copied result
-        ≡ with_report (asked_among table.now.table.threads actor which) number }
+    ensures { option_copied result ≡ ready_thread table.now.table actor which number }
 {
     table.reported(actor, which, Some(number))
 }
