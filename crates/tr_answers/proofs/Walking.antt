@@ -182,12 +182,6 @@ tried_halted taken failures old new page page_mid page_new s u q false e t h =
 
 -- The calls that are left, as loops come to them
 
-pub one_of_many : (q : Asked) (times n : ℕ) → n < times → replicate (times - n) q ≡ (q ∷ []) ++ replicate (times - (n + 1)) q
-one_of_many q times n h = let e : times - n ≡ suc (times - (n + 1)) = omega arith in rw e refl
-
-pub none_of_many : (q : Asked) (times n : ℕ) → times ≤ n → replicate (times - n) q ≡ []
-none_of_many q times n h = let e : times - n ≡ 0 = omega arith in rw e refl
-
 pub calls_of_step : (steps : List Answered) (i : ℕ) (a : Answered) → a ≡ get_or steps i a → i < length steps →
     asked_from (i + 1) (drop i steps) ≡ replicate a.step.times (asked_by (i + 1) a) ++ asked_from (i + 1 + 1) (drop (i + 1) steps)
 calls_of_step steps i a at h =

@@ -24,6 +24,7 @@ use Rattle.tr_encoding.specs.Calls.{CanBeRead, IsReadBack, call_data, step_of_ca
 use Rattle.tr_encoding.specs.Scenarios.{ReadsBack, as_steps, put_some, scenario_data}
 use Rattle.tr_encoding.specs.Sets.{array_data, number_data}
 use Rattle.tr_encoding.proofs.ReadBack.{steps_read}
+use Rattle.tr_scenario.proofs.Wholes.{read_within}
 
 -- What stands at each key
 
@@ -101,10 +102,6 @@ passed : (w : Result Scenario ScenarioFault) (t : Scenario) → (w >>= whole) �
 passed (Ok s) t h = let same = (whole_again s t [] h (omega arith)).0 in (ap Ok same, rw same at h)
 passed (Err e) t h = cc
 
-opened : (b : Bool) (r : Result Scenario ScenarioFault) (s : Scenario) → (if b then r else Err TooLarge) ≡ Ok s → r ≡ Ok s
-opened true r s h = h
-opened false r s h = cc
-
 from_json : (j : Result Data ScenarioFault) (s : Scenario) → (j >>= λ d. walk d >>= whole) ≡ Ok s → (d : Data) × ((j ≡ Ok d) × ((walk d ≡ Ok s) × (whole s ≡ Ok s)))
 from_json (Ok d) s h = (d, (refl, passed (walk d) s h))
 from_json (Err e) s h = cc
@@ -112,7 +109,7 @@ from_json (Err e) s h = cc
 -- a scenario is read by its walk, which is fit as a whole
 pub scenario_from : (bytes : List ℕ) (s : Scenario) → scenario_of bytes ≡ Ok s → (d : Data) × ((json_of bytes ≡ Ok d) × ((walk d ≡ Ok s) × (whole s ≡ Ok s)))
 unfolding scenario_of
-scenario_from bytes s h = from_json (json_of bytes) s (opened (nat_le (length bytes) 1048576) _ s h)
+scenario_from bytes s h = from_json (json_of bytes) s (read_within (nat_le (length bytes) 1048576) _ s h)
 
 inner : (start : Start) (job : Result Job ScenarioFault) (keys : Result ⊤ ScenarioFault) (s : Scenario) → (job >>= λ j. keys >>= λ _. Ok (record { start = start; job = j })) ≡ Ok s → start ≡ s.start
 inner start (Err e) keys s h = cc

@@ -1,5 +1,5 @@
 -- What was heard is the answer of some step, or the model doesn't let it be.
-use Rattle.std.proofs.Common.{◌≡◌, ◌∙◌, ◌&&◌, ◌||◌, ◌++◌, ◌≤◌, ℕ, List, [], ◌∷◌, Bool, true, false, Option, Some, None, is_some, Result, Ok, Err, refl, sym, ap, subst, inl, inr}
+use Rattle.std.proofs.Common.{◌≡◌, ◌∙◌, ◌&&◌, ◌||◌, ◌++◌, ◌≤◌, ℕ, List, [], ◌∷◌, Bool, true, false, Some, None, is_some, Result, Ok, Err, refl, sym, ap, subst, inl, inr}
 use Rattle.std.specs.Prelude.{◌↔◌, ℤ, IsTrue}
 use Rattle.std.proofs.lemmas.Bool.{and_from, and_parts, true≢false}
 use Rattle.std.proofs.lemmas.Option.{none-some, same_Some}
@@ -116,18 +116,12 @@ waiting_accepted k h =
 
 -- What hearing comes to
 
-one_cause : (v w : Refusal) (o : Option Refusal) → o ≡ Some v → o ≡ Some w → v ≡ w
-one_cause v w o e f = same_Some v w (sym e ∙ f)
-
-one_reply : (x y : Reply) (o : Option Reply) → o ≡ Some x → o ≡ Some y → x ≡ y
-one_reply x y o e f = same_Some x y (sym e ∙ f)
-
 pub heard_refused : (k : State) (a : ℕ) (e : Event) (told : Result Reply Refusal) (why : Refusal) (b : Bool) → cause_of k.table a e ≡ Some why → (IsTrue b ↔ (told ≡ Err why)) → IsHeard k a e told (Ok b) k
 heard_refused k a e told why true h t = subst (λ x. IsHeard k a e x (Ok true) k) (sym (t.0 refl)) ((h, refl), (h, refl))
 heard_refused k a e told why false h t = (other told t.1, refl)
   where
     other : (x : Result Reply Refusal) → (x ≡ Err why → IsTrue false) → IsLet k.table (call_of a e) x → ⊥
-    other (Err w) f l = true≢false (sym (f (ap (λ (z : Refusal). Err z) (one_cause w why _ l.1.0 h))))
+    other (Err w) f l = true≢false (sym (f (ap (λ (z : Refusal). Err z) (same_Some w why (sym l.1.0 ∙ h)))))
     other (Ok r) f (U, inl l) = none-some why (sym l.0 ∙ h)
     other (Ok r) f (U, inr l) = none-some why (sym l.1.not_refused ∙ h)
 
@@ -137,7 +131,7 @@ heard_quiet k a e told r false p q t = (other told t.1, refl)
   where
     other : (x : Result Reply Refusal) → (x ≡ Ok r → IsTrue false) → IsLet k.table (call_of a e) x → ⊥
     other (Err w) f l = none-some w (sym p ∙ l.1.0)
-    other (Ok y) f (U, inl l) = true≢false (sym (f (ap (λ (z : Reply). Ok z) (one_reply y r _ l.1 q))))
+    other (Ok y) f (U, inl l) = true≢false (sym (f (ap (λ (z : Reply). Ok z) (same_Some y r (sym l.1 ∙ q)))))
     other (Ok y) f (U, inr l) = none-some r (sym l.1.not_quiet ∙ q)
 
 pub heard_wrongly : (k : State) (a : ℕ) (e : Event) (why : Refusal) → IsDue k a e → IsHeard k a e (Err why) (Ok false) k

@@ -20,12 +20,12 @@ use Rattle.tr_scenario.specs.Workers.{worker_of, workers_at}
 pub record Holds {A : Type 0} (P : A → Type 0) (r : Result A ScenarioFault) : Type 0 where
   pub holds : IfOk r P
 
-after : {A B : Type 0} {Q : A → Type 0} {P : B → Type 0} (r : Result A ScenarioFault) (f : A → Result B ScenarioFault) → Holds Q r → ((x : A) → Q x → Holds P (f x)) → Holds P (r >>= f)
+pub after : {A B : Type 0} {Q : A → Type 0} {P : B → Type 0} (r : Result A ScenarioFault) (f : A → Result B ScenarioFault) → Holds Q r → ((x : A) → Q x → Holds P (f x)) → Holds P (r >>= f)
 after (Ok x) f h k = k x h.holds
 after (Err e) f h k = record { holds = tt }
 
 -- whatever came before
-last : {A B : Type 0} {P : B → Type 0} (r : Result A ScenarioFault) (f : A → Result B ScenarioFault) → ((x : A) → Holds P (f x)) → Holds P (r >>= f)
+pub last : {A B : Type 0} {P : B → Type 0} (r : Result A ScenarioFault) (f : A → Result B ScenarioFault) → ((x : A) → Holds P (f x)) → Holds P (r >>= f)
 last (Ok x) f k = k x
 last (Err e) f k = record { holds = tt }
 

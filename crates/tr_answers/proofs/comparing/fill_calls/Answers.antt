@@ -1,7 +1,8 @@
 use Rattle.std.proofs.Common.{◌<◌, ◌+◌, ◌-◌, ◌∷◌, [], arith, replicate}
 use Rattle.std.proofs.lemmas.Result.{err_from_is_err_and}
 use Rattle.tr_answers.specs.Comparisons.{asked_by}
-use Rattle.tr_answers.proofs.Walking.{going_at_end, going_differs, going_halted, going_next, none_of_many, one_of_many}
+use Rattle.tr_answers.proofs.Walking.{going_at_end, going_differs, going_halted, going_next}
+use Rattle.tr_scenario.proofs.Left.{none_of_many, one_of_many}
 use Rattle.tr_answers.proofs.comparing.fill_calls.Goals as goal
 
 pub returns-in_err-fill_call : goal.returns-in_err-fill_call
