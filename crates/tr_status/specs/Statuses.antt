@@ -5,13 +5,14 @@ use Rattle.tr_pending.specs.Waiting.{is_waiting}
 use Rattle.tr_tracee.specs.declared.life.Life.{Life}
 use Rattle.tr_tracee.specs.declared.life.Life.TheVariants as life
 use Rattle.tr_tracee.specs.declared.thread.Thread.{Thread}
-use Rattle.tr_tracee.specs.declared.thread.Trace.{Trace}
+use Rattle.tr_tracee.specs.Threads.{tracer_of}
 use Rattle.tr_group.specs.declared.stops.Action.{Action}
 use Rattle.tr_group.specs.declared.stops.Action.TheVariants.{Default, Ignore, Catch}
 use Rattle.tr_group.specs.Members.{count_in}
 use Rattle.tr_model.specs.declared.rows.Group.{Group}
 use Rattle.tr_model.specs.declared.rows.Target.{Target}
 use Rattle.tr_model.specs.declared.rows.Target.TheVariants as target
+use Rattle.tr_model.specs.Restarts.{tracer_number}
 use Rattle.tr_model.specs.Tables.{Table, actions_of, group_of, queue}
 use Rattle.tr_lanes.specs.Digits.{set_digits}
 use Rattle.tr_status.specs.Texts.{texts}
@@ -32,11 +33,6 @@ state_text pausing (life.Dead end) = codes "Z (zombie)"
 abbrev pub name_text : Option Group → List ℕ
 name_text None = []
 name_text (Some x) = take x.name.len x.name.bytes
-
--- 0 where nobody traces it
-abbrev pub tracer_number : Option Trace → ℕ
-tracer_number None = 0
-tracer_number (Some r) = r.tracer
 
 -- the signals that wait for a target
 abbrev pub waits_for : Table → Target → ℕ → Bool
@@ -95,7 +91,7 @@ status_text T t = lines_text (record {
   state = state_text t.pausing t.life;
   tgid = decimal t.group;
   pid = decimal t.id;
-  tracer = decimal (tracer_number t.trace);
+  tracer = decimal (tracer_number (tracer_of t.trace));
   threads = decimal (count_in t.group T.threads);
   queued = decimal (length T.waiting);
   limit = decimal T.limit;

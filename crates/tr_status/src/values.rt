@@ -1,10 +1,12 @@
 ghost use Rattle.std.specs.Prelude.{◌≡◌, ◌≤◌, ◌==◌, ◌||◌, ℕ, length, option_copied, take};
 ghost use Rattle.tr_lanes.specs.Digits.{set_digits};
 ghost use Rattle.tr_model.specs.declared.rows.Target.TheVariants as target;
+ghost use Rattle.tr_model.specs.Restarts.{tracer_number};
 ghost use Rattle.tr_model.specs.Tables.{actions_of, group_of};
 ghost use Rattle.tr_group.specs.declared.stops.Action.TheVariants as action;
 ghost use Rattle.tr_sigset.specs.Sets.{has};
-ghost use Rattle.tr_status.specs.Statuses.{has_action, name_text, same_action, state_text, tracer_number, waits_for};
+ghost use Rattle.tr_tracee.specs.Threads.{tracer_of};
+ghost use Rattle.tr_status.specs.Statuses.{has_action, name_text, same_action, state_text, waits_for};
 
 use tr_group::Action;
 use tr_lanes::hex16;
@@ -142,10 +144,7 @@ pub(crate) fn state_of(thread: &Thread) -> &'static [u8]
 
 /// The tracer's number, 0 where there is none.
 pub(crate) fn tracer_number(trace: &Option<Trace>) -> u32
-    ensures { result ≡ tracer_number trace.now }
+    ensures { result ≡ tracer_number (tracer_of trace.now) }
 {
-    match trace {
-        Some(trace) => trace.tracer,
-        None => 0,
-    }
+    trace.map_or(0, |trace| trace.tracer)
 }
