@@ -7,7 +7,7 @@ use std::marker::Model;
 /// How many ids a page has numbers of.
 const PAGE: usize = 256;
 
-/// The numbers of some ids in a row. A page that isn't open has none.
+/// The numbers of some ids in a row, up to the last that was ever set.
 #[derive(Drop)]
 struct Page {
     numbers: Vec<usize>,
@@ -39,14 +39,15 @@ impl Page {
         }
     }
 
-    /// Makes room for the numbers of all its ids, which are 0 until they are set.
-    fn open(&mut self) -> Result<(), AllocError>
+    /// Makes room for the number at a place, and for those before it: 0 until they are set.
+    fn open(&mut self, at: usize) -> Result<(), AllocError>
+        requires { at < 256 }
         ensures same { (i : ℕ) → get_or self.new i 0 ≡ get_or self.old i 0 }
-        ensures ok { OnOk result (256 ≤ length self.new) }
+        ensures ok { OnOk result (at < length self.new) }
     {
         self.numbers
-            .reserve(PAGE.saturating_sub(self.numbers.len()))?;
-        for _ in self.numbers.len()..PAGE {
+            .reserve((at + 1).saturating_sub(self.numbers.len()))?;
+        for _ in self.numbers.len()..at + 1 {
             self.numbers.push_reserved(0);
         }
         Ok(())
@@ -120,7 +121,7 @@ impl Pages {
         for _ in self.pages.len()..page + 1 {
             self.pages.push_reserved(Page::new(self.alloc));
         }
-        self.pages[page].open()
+        self.pages[page].open(place_of(id))
     }
 
     /// Sets the number of an id.
