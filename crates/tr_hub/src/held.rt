@@ -141,7 +141,7 @@ impl<E: Parts, A: Parts> Held<E, A> {
             return answer;
         }
         let actor = seat.actor();
-        let position = self.kernel.journal().len() as u64;
+        let position = self.kernel.position();
         let answer = self.kernel.call(actor, event);
         keep(&mut self.asked, actor, &event, position, &answer);
         seat.add(&mut self.books, &answer);

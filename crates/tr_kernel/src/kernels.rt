@@ -140,6 +140,13 @@ impl Kernel {
         self.journal.entries()
     }
 
+    /// How many entries were made: the position of the last one, from 1.
+    pub fn position(&self) -> u64
+        ensures { result ≡ length self.now.journal }
+    {
+        self.journal.entries().len() as u64
+    }
+
     /// The reply of the entry at a position, from 1.
     pub fn reply_at(&self, position: u64) -> Option<Reply>
         ensures none { position ≡ 0 → result ≡ None }
@@ -403,7 +410,7 @@ impl Kernel {
         let accepted = self.table().accepted();
         let reply = self.step_as(actor, event, choice)?;
         Ok(Receipt {
-            position: self.journal().len() as u64,
+            position: self.position(),
             event: *event,
             reply,
             accepted: self.table().accepted() - accepted,

@@ -14,7 +14,7 @@ invariant_of-self-2 g c =
     let i = c.self.invariant in
     let entries = entries_booked h.kernel actor event answer new e.entered e.read e.unchanged in
     let accepted = accepted_booked h.kernel actor event answer new e.receipt e.read e.unchanged in
-    rw (c.keep.ensures, c.reserve.ensures.items, c.journal.ensures.entries)
+    rw (c.keep.ensures, c.reserve.ensures.items, c.position-position.ensures)
     (kept_after h actor event answer new i.0 e.history e.entered e.room e.read e.refused e.unchanged, omega (arith, c.add-2.ensures.entries), omega (arith, c.add-2.ensures.accepted), i.3, i.4, i.5, i.6, start_kept h.kernel actor event answer new e.entered e.read e.unchanged ∙ i.7)
 
 pub returns-clause-kept : goal.returns-clause-kept
@@ -22,6 +22,6 @@ returns-clause-kept g c =
     let h : HeldState = record { kernel = c.self.inside.kernel; asked = c.self.inside.asked.items } in
     let e = c.call-answer.ensures in
     let kept : IsKept (record { kernel = c.call-answer.new.self; asked = c.keep.new.asked.items }) =
-    rw (c.keep.ensures, c.reserve.ensures.items, c.journal.ensures.entries)
+    rw (c.keep.ensures, c.reserve.ensures.items, c.position-position.ensures)
     (kept_after h c.actor-actor.result c.args.event c.call-answer.result c.call-answer.new.self c.self.invariant.0 e.history e.entered e.room e.read e.refused e.unchanged) in
     kept
