@@ -28,7 +28,7 @@ use Rattle.tr_model.specs.Tables.{Table, has_traced, members, thread_of}
 use Rattle.tr_model.specs.Takes.{can_take, choices, is_empty, with_number}
 use Rattle.tr_model.specs.StarterWaits.{death_number, has_death, led_groups, note_number, note_wanted, ready_death, ready_for_starter, ready_note, ready_of_group, shows_note, with_death, with_note}
 use Rattle.tr_model.specs.Waits.{asked_tracees, has_report, ready, ready_thread, report_number, with_report}
-use Rattle.tr_model.proofs.Among.{Among, among_filter, among_flat, any_among, empty_right, filter_among, find_among, first_of_flat, found_by_id, some_found}
+use Rattle.tr_model.proofs.Among.{Among, among_filter, among_flat, any_among, empty_left, empty_right, filter_among, find_among, first_of_flat, found_by_id, some_found}
 use Rattle.tr_model.proofs.FreeIds.{new_id_is_new}
 use Rattle.tr_model.proofs.Takable.{taken_by_choice}
 
@@ -134,17 +134,13 @@ death_among T (x ∷ gs) r e = go (has_death r (thread_of T x.tgid)) refl (death
     go true h rest f = (x, inl refl, h)
     go false h rest f = let k = rest f in (k.0, inr k.1, k.2)
 
-empty_before : (xs ys : List ℕ) → is_empty xs ≡ false → is_empty (xs ++ ys) ≡ false
-empty_before [] ys e = absurd (true≢false e)
-empty_before (x ∷ xs) ys e = refl
-
 -- a dead leader that has a report makes its group ready
 leader_ready : (T : Table) (which : Which) (flags : WaitFlags) (r : ℕ) → is_some (ready_death T which r) ≡ true → is_empty (ready_for_starter T which flags) ≡ false
 leader_ready T which flags r e =
     let k = death_among T (led_groups T which) r e in
     let g : Group = k.0 in
     among_flat (ready_of_group T flags) g (led_groups T which) k.1
-    (empty_before (death_number (thread_of T g.tgid)) (if has_traced T g.tgid then [] else note_number flags g.note) (death_there r (thread_of T g.tgid) k.2))
+    (empty_left (death_number (thread_of T g.tgid)) (if has_traced T g.tgid then [] else note_number flags g.note) (death_there r (thread_of T g.tgid) k.2))
 
 -- a note that is asked for makes its group ready
 note_ready : (T : Table) (which : Which) (flags : WaitFlags) (r : ℕ) → is_some (ready_note T which flags r) ≡ true → is_empty (ready_for_starter T which flags) ≡ false

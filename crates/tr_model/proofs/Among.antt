@@ -95,7 +95,7 @@ pub among_empty : {A : Type 0} (x : A) (ys : List A) → Among x ys → is_empty
 among_empty x [] m = absurd m
 among_empty x (y ∷ ys) m = refl
 
-empty_left : {A : Type 0} (xs ys : List A) → is_empty xs ≡ false → is_empty (xs ++ ys) ≡ false
+pub empty_left : {A : Type 0} (xs ys : List A) → is_empty xs ≡ false → is_empty (xs ++ ys) ≡ false
 empty_left [] ys e = absurd (true≢false e)
 empty_left (x ∷ xs) ys e = refl
 

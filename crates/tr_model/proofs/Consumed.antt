@@ -10,6 +10,7 @@ use Rattle.tr_model.specs.declared.events.Event.{Event}
 use Rattle.tr_model.specs.declared.events.Event.TheVariants as event
 use Rattle.tr_model.specs.declared.events.Entry.{Entry}
 use Rattle.tr_model.specs.declared.replies.Reply.{Reply}
+use Rattle.tr_model.proofs.Among.{some_found}
 use Rattle.tr_model.proofs.Every.{each_filter}
 use Rattle.tr_model.proofs.Calm.{Tame, CalmGroup, calm_group, without_note, tame_only, tame_released, tame_told_nothing}
 use Rattle.tr_model.proofs.Kept.{any, any_of, tracer_is, always-kept, settle-kept}
@@ -188,10 +189,6 @@ note_cleared before taken r g w p m h =
     none_here false e = absurd (true≢false (sym e))
 
 -- A wait's entry
-
-some_found : (o : Option Thread) → is_some o ≡ true → (t : Thread) × (o ≡ Some t)
-some_found None h = absurd (true≢false (sym h))
-some_found (Some t) h = (t, refl)
 
 by_wait : (before : List Raise) (taken : List ℕ) (a : ℕ) (which : Which) (r : ℕ) (w : Work) → Reported before taken w → is_some (Waits.ready_thread w.table a which r) ≡ true → Reported before (taken ++ r ∷ []) (Moves.on_thread (Waits.ready_thread w.table a which r) Waits.consume w)
 by_wait before taken a which r w p h = go (some_found _ h)
