@@ -9,7 +9,7 @@ ghost use Rattle.tr_tracee.specs.Lives.{is_leaving};
 use crate::reasons::Reason;
 use tr_model::{Event, MOST_MEMBERS, MOST_THREADS};
 use tr_requests::check_starter_wait;
-use tr_signals::{GREATEST_SIGNAL, LEAST_REAL_TIME, script};
+use tr_signals::script;
 use tr_sigset::Signal;
 use tr_table::Table;
 use tr_tracee::{Life, Stop, Thread};
@@ -20,7 +20,7 @@ use tr_wait::{WaitFlags, Which};
 fn above_all_signals(sig: u8) -> Option<Reason>
     ensures { result ≡ above_all_signals sig }
 {
-    if sig > GREATEST_SIGNAL {
+    if sig > Signal::GREATEST {
         Some(Reason::NoSignal(sig))
     } else {
         None
@@ -49,7 +49,7 @@ fn member_missing(table: &Table, tgid: u32, tid: u32) -> Option<Reason>
 fn over_limit(table: &Table, sig: u8) -> Option<Reason>
     ensures { result ≡ over_limit table.now.table sig }
 {
-    if sig >= LEAST_REAL_TIME && table.queued() >= table.limit() as usize {
+    if sig >= Signal::LEAST_REAL_TIME && table.queued() >= table.limit() as usize {
         Some(Reason::QueueFull(table.limit()))
     } else {
         None
@@ -103,14 +103,9 @@ fn own_at(table: &Table, tid: u32) -> Option<Reason>
 fn action_fixed(sig: u8) -> Option<Reason>
     ensures { result ≡ action_fixed sig }
 {
-    if sig == 0
-        || sig == Signal::KILL.number()
-        || sig == Signal::STOP.number()
-        || sig > GREATEST_SIGNAL
-    {
-        Some(Reason::FixedAction(sig))
-    } else {
-        None
+    match Signal::new(sig) {
+        Some(signal) if signal != Signal::KILL && signal != Signal::STOP => None,
+        _ => Some(Reason::FixedAction(sig)),
     }
 }
 
@@ -308,7 +303,7 @@ fn stopped_at(table: &Table, actor: u32, tid: u32) -> Option<Reason>
 fn no_restart(sig: u8) -> Option<Reason>
     ensures { result ≡ no_restart sig }
 {
-    if sig > GREATEST_SIGNAL {
+    if sig > Signal::GREATEST {
         Some(Reason::NoRestartSignal(sig))
     } else {
         None

@@ -17,7 +17,7 @@ use crate::tracing::stopped;
 use std::alloc::AllocError;
 use tr_model::{Checked, Choice, Fate, Refusal, Reply, Target};
 use tr_pending::{Info, Instance};
-use tr_signals::{GREATEST_SIGNAL, act_on};
+use tr_signals::act_on;
 use tr_sigset::Signal;
 use tr_steps::Step;
 use tr_table::{Table, ThreadChange};
@@ -98,7 +98,7 @@ pub fn check_cont(table: &Table, actor: u32, tid: u32, sig: u8) -> Result<Checke
     if let Some(why) = stopped(actor, thread) {
         return Err(why);
     }
-    if sig > GREATEST_SIGNAL {
+    if sig > Signal::GREATEST {
         return Err(Refusal::Io);
     }
     Ok(Checked::Due(Choice::NONE))

@@ -9,7 +9,6 @@ ghost use Rattle.tr_model.specs.Sends.{flush_in, set_action};
 ghost use Rattle.tr_model.specs.Choices.{no_choice};
 ghost use Rattle.tr_steps.specs.UnderWay.{IsStepOf, Moves, entry};
 
-use crate::limits::GREATEST_SIGNAL;
 use crate::scripts::script;
 use std::alloc::AllocError;
 use tr_group::Action;
@@ -23,10 +22,10 @@ use tr_tracee::Thread;
 fn cannot_be_set(sig: u8) -> bool
     ensures { result ≡ (sig == 0 || sig == 9 || sig == 19 || nat_lt 64 sig) }
 {
-    sig == 0
-        || sig == Signal::KILL.number()
-        || sig == Signal::STOP.number()
-        || sig > GREATEST_SIGNAL
+    match Signal::new(sig) {
+        Some(signal) => signal == Signal::KILL || signal == Signal::STOP,
+        None => true,
+    }
 }
 
 fn flush_where(step: &mut Step, ignores: bool, tgid: u32, signal: Signal)

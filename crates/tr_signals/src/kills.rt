@@ -11,7 +11,6 @@ ghost use Rattle.tr_model.specs.Tables.{thread_of};
 ghost use Rattle.tr_steps.specs.UnderWay.{ComesTo, IsStepOf, entry};
 ghost use Rattle.tr_signals.specs.Private.{is_over_limit, send_checked, send_outcome};
 
-use crate::limits::{GREATEST_SIGNAL, LEAST_REAL_TIME};
 use std::alloc::AllocError;
 use tr_model::{Checked, Choice, Ending, Fate, Refusal, Reply, Target};
 use tr_pending::Info;
@@ -24,7 +23,7 @@ use tr_table::Table;
 fn check_send(table: &Table, is_there: bool, sig: u8) -> Result<Checked, Refusal>
     ensures { result ≡ send_checked table.now.table is_there sig }
 {
-    if sig > GREATEST_SIGNAL {
+    if sig > Signal::GREATEST {
         return Err(Refusal::Inval);
     }
     if !is_there {
@@ -42,7 +41,7 @@ fn check_send(table: &Table, is_there: bool, sig: u8) -> Result<Checked, Refusal
 fn is_over_limit(table: &Table, sig: u8) -> bool
     ensures { result ≡ is_over_limit table.now.table sig }
 {
-    sig >= LEAST_REAL_TIME && table.queued() >= table.limit() as usize
+    sig >= Signal::LEAST_REAL_TIME && table.queued() >= table.limit() as usize
 }
 
 /// What became of an accepted signal in a step, by what ended in it: pending where it did not end.

@@ -72,6 +72,12 @@ impl Model for Signal {
 }
 
 impl Signal {
+    /// The greatest number of a signal: that of SIGRTMAX.
+    pub const GREATEST: u8 = 64;
+
+    /// The least number of a real-time signal.
+    pub const LEAST_REAL_TIME: u8 = 32;
+
     /// SIGKILL, which no thread can block, catch or ignore.
     pub const KILL: Signal = Signal { number: 9 };
 
@@ -84,11 +90,20 @@ impl Signal {
     /// SIGSTOP, which no thread can block, catch or ignore.
     pub const STOP: Signal = Signal { number: 19 };
 
+    /// SIGTSTP, which the suspend key sends.
+    pub const TSTP: Signal = Signal { number: 20 };
+
+    /// SIGTTIN, which a read from the terminal in the background sends.
+    pub const TTIN: Signal = Signal { number: 21 };
+
+    /// SIGTTOU, which a write to it sends.
+    pub const TTOU: Signal = Signal { number: 22 };
+
     /// The signal of a number, where that is 1 to 64.
     pub fn new(number: u8) -> Option<Signal>
         ensures { SomeIff result (IsSignal number) number }
     {
-        if 1 <= number && number <= 64 {
+        if 1 <= number && number <= Signal::GREATEST {
             Some(Signal { number })
         } else {
             None
@@ -124,6 +139,6 @@ impl Signal {
     pub fn is_real_time(self) -> bool
         ensures { result ≡ is_real_time self }
     {
-        32 <= self.number
+        Signal::LEAST_REAL_TIME <= self.number
     }
 }

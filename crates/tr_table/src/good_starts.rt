@@ -78,13 +78,11 @@ fn are_good_actions(actions: &[(Signal, Action)]) -> bool
     may_be_set(actions) && have_distinct_signals(actions)
 }
 
-/// Whether the actions are none of KILL (9) and STOP (19), which stay as they are: signal(7).
+/// Whether the actions are none of KILL and STOP, which stay as they are: signal(7).
 fn may_be_set(actions: &[(Signal, Action)]) -> bool
     ensures { result ≡ list_all may_be_set actions.now }
 {
-    actions
-        .iter()
-        .all(|action| action.0.number() != 9 && action.0.number() != 19)
+    actions.iter().all(|action| action.0 != Signal::KILL && action.0 != Signal::STOP)
 }
 
 fn have_distinct_signals(actions: &[(Signal, Action)]) -> bool

@@ -37,23 +37,15 @@ pub(crate) enum Picked {
     Set(Target, SigSet),
 }
 
-fn has_number(signals: SigSet, number: u8) -> bool
-    requires least { 1 ≤ number }
-    requires greatest { number ≤ 64 }
-    ensures { result ≡ has signals number }
-{
-    signals.has(Signal::new(number).unwrap())
-}
-
 /// Whether some of the signals is STOP, TSTP, TTIN or TTOU.
 fn has_stop(signals: SigSet) -> bool
     ensures { result
         ≡ (has signals 19 || (has signals 20 || (has signals 21 || has signals 22))) }
 {
     signals.has(Signal::STOP)
-        || has_number(signals, 20)
-        || has_number(signals, 21)
-        || has_number(signals, 22)
+        || signals.has(Signal::TSTP)
+        || signals.has(Signal::TTIN)
+        || signals.has(Signal::TTOU)
 }
 
 impl Flush {
@@ -76,8 +68,8 @@ fn flushes(flush: &Flush, signal: Signal) -> bool
 {
     match flush {
         Flush::Stops => signal.is_stop(),
-        Flush::Cont => signal.number() == 18,
-        Flush::One(flushed) => signal.number() == flushed.number(),
+        Flush::Cont => signal == Signal::CONT,
+        Flush::One(flushed) => signal == *flushed,
     }
 }
 
