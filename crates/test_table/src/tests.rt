@@ -2,6 +2,7 @@ mod full;
 mod lanes;
 mod many_threads;
 mod many_waiting;
+mod members;
 mod memory;
 mod one_queue;
 mod opening;
@@ -13,11 +14,11 @@ use std::alloc::{AllocError, Global};
 use std::fmt::Debug;
 use std::process::Abort;
 use std::test::Fail;
-use tr_group::{Action, Members};
+use tr_group::Action;
 use tr_model::{Ending, Fate, Target};
 use tr_pending::{Info, Instance};
 use tr_sigset::{SigSet, Signal};
-use tr_table::{Flush, GroupStart, Items, Start, Table};
+use tr_table::{Flush, GroupStart, Items, Start, Table, ThreadChange};
 use tr_tracee::{End, Life, Thread};
 
 const INFO: Info = Info {
@@ -134,18 +135,14 @@ fn thread(table: &Table, id: u32) -> Result<&Thread, Fail> {
 }
 
 /// Adds a thread with a new id to a group that has a place for it.
-#[tactic(auto, using(tr_table::proofs::Rosters::counted))]
 fn add_new(table: &mut Table, thread: &Thread) -> Result<(), AllocError> {
-    if table.find(thread.id).is_some() || table.count(thread.group) >= 64 {
+    if table.find(thread.id).is_some() || table.member_count(thread.group) >= 64 {
         return Err(AllocError);
     }
     table.add(thread)
 }
 
-#[tactic(auto, using(tr_model::proofs::Kept::itself))]
-fn kill_thread(table: &mut Table, id: u32) -> Result<(), Fail> {
-    let mut dead = *table.find(id).ok_or("no such thread")?;
-    dead.life = Life::Dead(End::Exited(0));
-    table.put_thread(&dead);
-    Ok(())
+fn kill_thread(table: &mut Table, id: u32) {
+    table.change_thread(id, &ThreadChange::BeginToLeave(true, End::Exited(0)));
+    table.change_thread(id, &ThreadChange::Die);
 }

@@ -1,3 +1,2 @@
 pub mod Actions
 pub mod GroupStops
-pub mod Members

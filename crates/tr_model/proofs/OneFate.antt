@@ -22,7 +22,6 @@ use Rattle.tr_model.specs.Moves.{Work}
 use Rattle.tr_model.specs.Tables.{Table}
 use Rattle.tr_tracee.specs.Lives.{held}
 use Rattle.tr_model.specs.Deaths
-use Rattle.tr_group.specs.Members.{number_held}
 use Rattle.tr_model.specs.Journals
 use Rattle.tr_model.specs.Laws
 use Rattle.tr_tracee.specs.Lives
@@ -303,7 +302,7 @@ gone_is n (x ∷ es) = go (x.number == n) (gone_is n es)
     go true e = omega (arith, e)
     go false e = omega (arith, e)
 
-held_one : (n : ℕ) (o : Option Instance) → Journals.occurs n (number_held o) ≡ is_number n o
+held_one : (n : ℕ) (o : Option Instance) → Journals.occurs n (Journals.number_held o) ≡ is_number n o
 held_one n None = refl
 held_one n (Some i) = go (i.n == n)
   where
@@ -313,7 +312,7 @@ held_one n (Some i) = go (i.n == n)
 
 pub held_is : (n : ℕ) (ts : List Thread) → Journals.occurs n (Journals.held_numbers ts) ≡ total (holds n) ts
 held_is n [] = refl
-held_is n (t ∷ ts) = omega (arith, occurs-append n (number_held (held t.life)) (Journals.held_numbers ts), held_one n (held t.life), held_is n ts)
+held_is n (t ∷ ts) = omega (arith, occurs-append n (Journals.number_held (held t.life)) (Journals.held_numbers ts), held_one n (held t.life), held_is n ts)
 
 occurs_is : (n : ℕ) (T : Table) (ended : List Ending) → Journals.occurs n (Journals.waiting_numbers T.waiting ++ Journals.held_numbers T.threads ++ Journals.numbers_of ended) ≡ waits n T.waiting + total (holds n) T.threads + gone n ended
 occurs_is n T ended =
@@ -348,7 +347,7 @@ nothing_held t f = ap held f.life
 
 fresh_hold : (ts : List Thread) → Journals.Each Journals.IsFresh ts → Journals.held_numbers ts ≡ []
 fresh_hold [] f = refl
-fresh_hold (t ∷ ts) f = ap (λ o. number_held o ++ Journals.held_numbers ts) (nothing_held t f.0) ∙ fresh_hold ts f.1
+fresh_hold (t ∷ ts) f = ap (λ o. Journals.number_held o ++ Journals.held_numbers ts) (nothing_held t f.0) ∙ fresh_hold ts f.1
 
 pub start_sound : (T : Table) → Journals.IsStart T → Sound T []
 start_sound T s = record { at = λ n. omega (arith, sym (waits_is n T.waiting) ∙ ap (λ qs. Journals.occurs n (Journals.waiting_numbers qs)) s.waiting, sym (held_is n T.threads) ∙ ap (Journals.occurs n) (fresh_hold T.threads s.threads), ap (born n) s.accepted) }

@@ -5,7 +5,6 @@ use Rattle.tr_tracee.specs.declared.life.Life.TheVariants as life
 use Rattle.tr_tracee.specs.declared.thread.Thread.{Thread}
 use Rattle.tr_tracee.specs.Lives.{held}
 use Rattle.tr_group.specs.declared.stops.GroupStop.TheVariants.{No}
-use Rattle.tr_group.specs.Members.{number_held}
 use Rattle.tr_model.specs.Choices.{Choice}
 use Rattle.tr_model.specs.declared.events.Entry.{Entry}
 use Rattle.tr_model.specs.declared.events.Event.{Event}
@@ -111,7 +110,12 @@ abbrev pub waiting_numbers : List Waiting → List ℕ
 waiting_numbers [] = []
 waiting_numbers (q ∷ qs) = q.instance.n ∷ waiting_numbers qs
 
--- those that a signal-delivery-stop holds
+-- the number of the instance that a signal-delivery-stop holds, if there is one
+abbrev pub number_held : Option Instance → List ℕ
+number_held None = []
+number_held (Some i) = i.n ∷ []
+
+-- those that signal-delivery-stops hold
 abbrev pub held_numbers : List Thread → List ℕ
 held_numbers [] = []
 held_numbers (t ∷ ts) = number_held (held t.life) ++ held_numbers ts

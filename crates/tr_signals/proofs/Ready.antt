@@ -21,7 +21,6 @@ use Rattle.tr_tracee.specs.declared.life.Life.TheVariants as life
 use Rattle.tr_tracee.specs.declared.thread.Thread.{Thread}
 use Rattle.tr_tracee.specs.Lives.{is_free, is_live}
 use Rattle.tr_tracee.specs.Threads.{has_mark, in_group, is_ready_to_take}
-use Rattle.tr_group.specs.Members.{at_place, member}
 use Rattle.tr_model.specs.declared.rows.Target.TheVariants as target
 use Rattle.tr_model.specs.Tables.{Table, members, queue}
 use Rattle.tr_model.specs.Takes.{can_take}
@@ -187,17 +186,6 @@ found_none p xs e = go (nat_lt (position_or_len p xs) (length xs)) refl e
     go : (b : Bool) → nat_lt (position_or_len p xs) (length xs) ≡ b → cond b (Some (position_or_len p xs)) None ≡ None → find p xs ≡ None
     go true h f = cc
     go false h f = find_at p xs ∙ slice_get_past xs _ (ltb-false _ _ h)
-
--- the thread at a place of its group
-pub member_at : (g k : ℕ) (ts : List Thread) → member g k ts ≡ slice_get (filter (in_group g) ts) k
-member_at g k [] = refl
-member_at g k (t ∷ ts) = go (t.group == g) k (λ j. member_at g j ts)
-  where
-    go : (b : Bool) (i : ℕ) → ((j : ℕ) → member g j ts ≡ slice_get (filter (in_group g) ts) j)
-        → (if b then at_place i t (λ j. member g j ts) else member g i ts) ≡ slice_get (cond b (t ∷ filter (in_group g) ts) (filter (in_group g) ts)) i
-    go true zero r = refl
-    go true (suc i) r = r i
-    go false i r = r i
 
 -- What a scan of a group's rows finds
 

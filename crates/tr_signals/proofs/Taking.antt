@@ -8,30 +8,29 @@ use Rattle.tr_tracee.specs.declared.thread.Thread.{Thread}
 use Rattle.tr_model.specs.declared.events.Event.TheVariants.{Take}
 use Rattle.tr_model.specs.declared.rows.Target.{Target}
 use Rattle.tr_model.specs.Journals.{IsSorted, queue_of, taken_by}
-use Rattle.tr_model.specs.Moves.{Work, at, begin, entered_now, hold, holding, instance_in, on_instance, on_thread, pulled}
+use Rattle.tr_model.specs.Moves.{Work, at, begin, enter, enter_if_allowed, hold, holding, instance_in, on_instance, on_thread, pulled}
 use Rattle.tr_model.specs.Choices.{Choice, takes_instance}
 use Rattle.tr_model.specs.Compare.{Permits}
 use Rattle.tr_model.specs.Tables.{Table, thread_of}
 use Rattle.tr_model.specs.Takes.{choices, take, take_numbered, with_number}
 use Rattle.tr_model.proofs.Among.{some_found}
-use Rattle.tr_model.proofs.Measures.{free_may}
 use Rattle.tr_table.specs.Choices.{target_in}
 use Rattle.tr_model.specs.declared.replies.Reply.{Reply}
 use Rattle.tr_model.specs.GroupStops.{complete_group_stops}
 use Rattle.tr_model.specs.Steps.{Outcome, number, takes}
 use Rattle.tr_model.specs.Steps as Steps
 use Rattle.std.specs.Prelude.{IfOk}
-use Rattle.tr_steps.proofs.Put.{id_found}
+use Rattle.tr_model.proofs.Kept.{itself}
 use Rattle.tr_steps.specs.UnderWay.{ComesTo, UnderWay}
 use Rattle.tr_signals.specs.Private.{Takes, take_outcome}
 use Rattle.tr_signals.proofs.Chosen.{chosen_is}
 
 -- A free thread that holds an instance enters its signal-delivery-stop
 
-pub hold_is : (w : Work) (t : Thread) (i : Instance) → Takes w.table t i → hold t.id i.n w ≡ entered_now (stop.Signal i false) t (pulled i w)
+pub hold_is : (w : Work) (t : Thread) (i : Instance) → Takes w.table t i → hold t.id i.n w ≡ enter t.id (stop.Signal i false) (pulled i w)
 hold_is w t i k =
     ap (λ o. on_thread o (λ t. on_instance (instance_in w.table.waiting i.n) (holding t)) w) k.there
-    ∙ (ap (λ o. on_instance o (holding t) w) k.waits ∙ rw (k.free, free_may t.life k.free) refl)
+    ∙ (ap (λ o. on_instance o (holding t) w) k.waits ∙ (rw k.free refl ∙ sym (ap (λ o. on_thread o (enter_if_allowed (stop.Signal i false)) (pulled i w)) k.there)))
 
 -- What is admitted
 
@@ -65,7 +64,7 @@ took_is : (T : Table) (id n : ℕ) → IsSorted T.waiting → (d : IsDue T id n)
 took_is T id n s d =
     let b = chosen_is T d.thread n d.instance s d.chosen in
     record {
-      takes = record { there = ap (thread_of T) (id_found id T.threads d.thread d.there) ∙ d.there; free = b.free; waits = ap (instance_in T.waiting) b.number ∙ b.waits };
+      takes = record { there = itself T.threads id d.thread d.there; free = b.free; waits = ap (instance_in T.waiting) b.number ∙ b.waits };
       does = ap (λ o. on_thread o (take_numbered n) (begin T)) d.there ∙ ap (λ o. on_instance o (take d.thread) (begin T)) d.chosen;
       queue = ap (λ o. queue_of (taken_by T o n)) d.there ∙ (ap queue_of b.taken ∙ (sym b.there ∙ ap (target_in T.waiting) (sym b.number)));
     }

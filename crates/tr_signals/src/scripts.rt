@@ -1,7 +1,8 @@
 //! What a thread may do of its own, and when.
 
-ghost use Rattle.std.specs.Prelude.{◌≡◌, IfOk, None, OnErr};
+ghost use Rattle.std.specs.Prelude.{◌≡◌, IfOk, None, OnErr, true};
 ghost use Rattle.tr_model.specs.Causes.{first_cause, script};
+ghost use Rattle.tr_table.specs.Changes.{keeps_held};
 ghost use Rattle.tr_steps.specs.UnderWay.{ComesTo};
 ghost use Rattle.tr_signals.specs.Scripts.{own_outcome, script_checked};
 
@@ -39,9 +40,10 @@ pub fn check_script(table: &Table, tid: u32) -> Result<Checked, Refusal>
     }
 }
 
-/// An entry that changes the record of one thread. Where memory is refused, or the numbers are used up, nothing has
-/// changed.
+/// An entry that changes the record of one thread, and leaves it what it holds. Where memory is refused, or the numbers are
+/// used up, nothing has changed.
 pub fn change_own(step: &mut Step, tid: u32, change: &ThreadChange) -> Result<Reply, AllocError>
+    requires keeps { keeps_held change.now ≡ true }
     ensures did { IfOk result
         (ComesTo (own_outcome tid change.now step.old.work.table) None step.new) }
     ensures err { OnErr result (step.new.work.table ≡ step.old.work.table) }

@@ -13,7 +13,6 @@ ghost use Rattle.tr_steps.specs.UnderWay.{IsStepOf};
 
 use crate::takes::{best_for, take_due};
 use std::alloc::AllocError;
-use tr_group::Members;
 use tr_lanes::first_ready;
 use tr_model::{Checked, Choice, Refusal, Reply};
 use tr_pending::Instance;
@@ -27,7 +26,7 @@ fn first_taker(table: &Table, tgid: u32, rows: &Rows) -> Option<Thread>
     ensures { result ≡ find (can_take table.now.table) (members table.now.table tgid) }
 {
     let place = first_ready(rows.own(), rows.blocked(), rows.shared(), rows.runnable())?;
-    Some(table.at(tgid, place))
+    table.member(tgid, place).copied()
 }
 
 fn taking_by(tid: u32, best: &Option<Instance>) -> Choice

@@ -86,7 +86,7 @@ fn take_instance(step: &mut Step, thread: &Thread, instance: &Instance, did: Did
     ensures { Moves (take thread.now instance.now) 2 step.old step.new }
 {
     if thread.is_traced() {
-        step.hold(thread, instance);
+        step.hold(thread.id, instance);
     } else {
         deliver_to(step, thread, instance, did);
     }

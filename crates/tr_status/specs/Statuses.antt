@@ -8,12 +8,11 @@ use Rattle.tr_tracee.specs.declared.thread.Thread.{Thread}
 use Rattle.tr_tracee.specs.Threads.{tracer_of}
 use Rattle.tr_group.specs.declared.stops.Action.{Action}
 use Rattle.tr_group.specs.declared.stops.Action.TheVariants.{Default, Ignore, Catch}
-use Rattle.tr_group.specs.Members.{count_in}
 use Rattle.tr_model.specs.declared.rows.Group.{Group}
 use Rattle.tr_model.specs.declared.rows.Target.{Target}
 use Rattle.tr_model.specs.declared.rows.Target.TheVariants as target
 use Rattle.tr_model.specs.Restarts.{tracer_number}
-use Rattle.tr_model.specs.Tables.{Table, actions_of, group_of, queue}
+use Rattle.tr_model.specs.Tables.{Table, actions_of, group_of, members, queue}
 use Rattle.tr_lanes.specs.Digits.{set_digits}
 use Rattle.tr_status.specs.Texts.{texts}
 
@@ -92,7 +91,7 @@ status_text T t = lines_text (record {
   tgid = decimal t.group;
   pid = decimal t.id;
   tracer = decimal (tracer_number (tracer_of t.trace));
-  threads = decimal (count_in t.group T.threads);
+  threads = decimal (length (members T t.group));
   queued = decimal (length T.waiting);
   limit = decimal T.limit;
   own = set_digits (waits_for T (target.Thread t.id));

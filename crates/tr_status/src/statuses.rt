@@ -8,7 +8,6 @@ ghost use Rattle.tr_status.specs.Writing.{Writes};
 
 use crate::sinks::{Failed, Sink, put_all};
 use crate::values::{Masks, masks_of, name_of, state_of, tracer_number};
-use tr_group::Members;
 use tr_kernel::Kernel;
 use tr_table::Table;
 use tr_text::TextBuffer;
@@ -78,7 +77,7 @@ pub fn prepend_status(text: &mut StatusBuffer, table: &Table, thread: &Thread)
             tgid: thread.group,
             pid: thread.id,
             tracer: tracer_number(&thread.trace),
-            threads: table.count(thread.group),
+            threads: table.member_count(thread.group),
             queued: table.queued(),
             limit: table.limit(),
         },

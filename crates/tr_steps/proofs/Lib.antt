@@ -2,3 +2,4 @@ pub mod Helds
 pub mod Groups
 pub mod Continues
 pub mod Put
+pub mod Slight

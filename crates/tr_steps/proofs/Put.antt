@@ -1,6 +1,5 @@
--- The record of one thread written anew, and what it held.
+-- The record of one thread that changes, and what it held.
 use Rattle.std.proofs.Common.{◌≡◌, ◌∙◌, ℕ, ◌+◌, ◌==◌, List, [], ◌∷◌, ◌++◌, Bool, true, false, Option, Some, None, if◌then◌else◌, is_some, refl, sym, ap, arith}
-use Rattle.std.proofs.lemmas.Bool.{eqb-true}
 use Rattle.std.proofs.lemmas.Option.{none-some, same_Some}
 use Rattle.std.specs.Prelude.{IfSome}
 use Rattle.tr_pending.specs.declared.instance.Instance.{Instance}
@@ -11,17 +10,8 @@ use Rattle.tr_model.specs.declared.fates.Fate.{Fate}
 use Rattle.tr_model.specs.Moves.{changed, ended_by_change, ended_hold}
 use Rattle.tr_model.specs.Tables.{Table, thread_in, thread_of}
 use Rattle.tr_model.proofs.Calm.{listening_holds, restarted_holds}
+use Rattle.tr_model.proofs.Kept.{itself}
 use Rattle.tr_table.specs.Held.{bool_to_nat, held_count}
-
--- the record that is found by an id, written anew, is that record changed
-pub changed_put : (id : ℕ) (f : Thread → Thread) (ts : List Thread) (t : Thread) → thread_in ts id ≡ Some t → changed id (λ _. f t) ts ≡ changed id f ts
-changed_put id f [] t e = refl
-changed_put id f (x ∷ xs) t e = go (x.id == id) e (changed_put id f xs t)
-  where
-    go : (b : Bool) → (if b then Some x else thread_in xs id) ≡ Some t → (thread_in xs id ≡ Some t → changed id (λ _. f t) xs ≡ changed id f xs)
-        → (if b then f t ∷ xs else x ∷ changed id (λ _. f t) xs) ≡ (if b then f x ∷ xs else x ∷ changed id f xs)
-    go true q r = ap (λ z. f z ∷ xs) (sym (same_Some x t q))
-    go false q r = ap (λ zs. x ∷ zs) (r q)
 
 pub helds_put : (id : ℕ) (f : Thread → Thread) (ts : List Thread) (t : Thread) → thread_in ts id ≡ Some t → held_count (changed id f ts) + bool_to_nat (is_some (held t.life)) ≡ held_count ts + bool_to_nat (is_some (held (f t).life))
 helds_put id f [] t e = absurd (none-some t e)
@@ -56,17 +46,6 @@ helds_added t (x ∷ xs) e = omega (arith, helds_added t xs e)
 
 -- a thread that is found by an id is found by its own
 
-pub id_found : (id : ℕ) (ts : List Thread) (t : Thread) → thread_in ts id ≡ Some t → t.id ≡ id
-id_found id [] t e = absurd (none-some t e)
-id_found id (x ∷ xs) t e = go (x.id == id) refl e (id_found id xs t)
-  where
-    go : (b : Bool) → (x.id == id) ≡ b → (if b then Some x else thread_in xs id) ≡ Some t → (thread_in xs id ≡ Some t → t.id ≡ id) → t.id ≡ id
-    go true h q r = let same : x ≡ t = cc in ap (λ z. z.id) (sym same) ∙ eqb-true x.id id h
-    go false h q r = r q
-
-pub found_again : (T : Table) (id : ℕ) (t : Thread) → thread_of T id ≡ Some t → thread_of T t.id ≡ Some t
-found_again T id t e = ap (thread_of T) (id_found id T.threads t e) ∙ e
-
 pub found_own : (T : Table) (id : ℕ) (o : Option Thread) → o ≡ thread_of T id → IfSome o (λ t. thread_of T t.id ≡ Some t)
 found_own T id None e = tt
-found_own T id (Some t) e = found_again T id t (sym e)
+found_own T id (Some t) e = itself T.threads id t (sym e)

@@ -1,8 +1,9 @@
 //! The small moves of a step, each the model's move of the same name. None takes memory.
 
-ghost use Rattle.std.specs.Prelude.{◌≡◌, ◌≤◌, ◌<◌, ◌+◌, ◌++◌, ◌==◌, None, OnErr, OnOk, Some, false, is_some, length, vec_len, vec_capacity};
+ghost use Rattle.std.specs.Prelude.{◌≡◌, ◌≤◌, ◌<◌, ◌+◌, ◌++◌, ◌==◌, None, OnErr, OnOk, Some, false, is_some, true, length, vec_len, vec_capacity};
+ghost use Rattle.std.specs.Option.{option_to_list};
 ghost use Rattle.tr_model.specs.declared.fates.Fate.TheVariants.{Flushed};
-ghost use Rattle.tr_model.specs.Moves.{accept_as, added, alter, become, drop_empty, end_waiting, ended_hold, enqueue, enter, entered_now, note, only_group, pulled, raise, regroup, remove_dead, report_death, take_place, tell_dying, tell_killed};
+ghost use Rattle.tr_model.specs.Moves.{accept_as, added, alter, become, drop_empty, end_waiting, ended_hold, enqueue, enter, note, only_group, pulled, regroup, remove_dead, report_death, take_place, tell_dying, tell_killed};
 ghost use Rattle.tr_model.specs.Restarts.{listen, resume};
 ghost use Rattle.tr_model.specs.Tables.{members, same_target, thread_of};
 ghost use Rattle.tr_model.specs.Sends.{flush_in};
@@ -11,9 +12,8 @@ ghost use Rattle.tr_tracee.specs.declared.life.Stop.TheVariants as stop;
 ghost use Rattle.tr_tracee.specs.Ends.{begun_to_leave, begun_to_leave_by_exec};
 ghost use Rattle.tr_tracee.specs.Lives.{held};
 ghost use Rattle.tr_tracee.specs.Marks.{cont_noted, marked};
-ghost use Rattle.tr_tracee.specs.Threads.{at_group, at_thread, tracer_of};
-ghost use Rattle.tr_group.specs.Members.{continued_by};
-ghost use Rattle.tr_table.specs.Changes.{flushes, group_changed_by, thread_changed_by};
+ghost use Rattle.tr_tracee.specs.Threads.{at_group, at_thread};
+ghost use Rattle.tr_table.specs.Changes.{continued_by, flushes, group_changed_by, keeps_held, thread_changed_by};
 ghost use Rattle.tr_table.specs.Held.{bool_to_nat};
 ghost use Rattle.tr_steps.specs.UnderWay.{Moves};
 
@@ -28,32 +28,31 @@ use tr_wait::Status;
 
 impl Step {
     /// Each live thread of a group that takes no part in the group-stop yet gets the stop mark.
-    #[tactic(auto, using(crate::proofs::Helds::helds_marked))]
     pub fn mark_all(&mut self, tgid: u32)
         ensures { Moves (alter (at_group tgid marked)) 0 self.old self.new }
     {
-        self.table.mark_all(tgid);
+        self.table.change_members(tgid, &ThreadChange::Mark);
     }
 
     /// Each signal-delivery-stop of a group notes that a SIGCONT came.
-    #[tactic(auto, using(crate::proofs::Helds::helds_cont_noted))]
     pub fn note_cont(&mut self, tgid: u32)
         ensures { Moves (alter (at_group tgid cont_noted)) 0 self.old self.new }
     {
-        self.table.note_cont(tgid);
+        self.table.change_members(tgid, &ThreadChange::NoteCont);
     }
 
     /// A SIGCONT comes to the threads of a group; `in_effect` says whether a group-stop is in effect.
-    #[tactic(auto, using(crate::proofs::Helds::helds_continued))]
     pub fn continue_threads(&mut self, tgid: u32, in_effect: bool)
         ensures { Moves (alter (at_group tgid (continued_by in_effect))) 0 self.old self.new }
     {
-        self.table.continue_threads(tgid, in_effect);
+        self.table
+            .change_members(tgid, &ThreadChange::Continue(in_effect));
     }
 
-    /// What happens to the record of one thread.
-    #[tactic(auto, using(crate::proofs::Helds::helds_own))]
+    /// What happens to the record of one thread, where that leaves it what it holds.
+    #[tactic(auto, using(crate::proofs::Helds::helds_kept_by))]
     pub fn change_thread(&mut self, id: u32, change: &ThreadChange)
+        requires keeps { keeps_held change.now ≡ true }
         ensures { Moves (alter (at_thread id (thread_changed_by change.now))) 0 self.old self.new }
     {
         self.table.change_thread(id, change);
@@ -131,34 +130,14 @@ impl Step {
         self.table.flush_queue(target, &mut self.ended);
     }
 
-    /// A thread enters a ptrace-stop, other than a signal-delivery-stop, if it may.
-    #[tactic(auto, using(crate::proofs::Helds::helds_changed))]
+    /// A thread enters a ptrace-stop, if it may.
     pub fn enter(&mut self, id: u32, stop: &Stop)
         requires { 1 ≤ self.old.room }
         ensures { Moves (enter id stop.now) 1 self.old self.new }
     {
-        let Some(thread) = self.table.find(id) else {
-            return;
-        };
-        if thread.life.may_enter() {
-            let thread = *thread;
-            self.enter_now(&thread, stop);
-        }
-    }
-
-    #[tactic(auto, using(crate::proofs::Helds::helds_changed))]
-    fn enter_now(&mut self, thread: &Thread, stop: &Stop)
-        requires { 1 ≤ self.old.room }
-        ensures { Moves (entered_now stop.now thread.now) 1 self.old self.new }
-    {
         self.room -= 1;
-        self.table.enter(thread.id, stop);
-        self.raises.push_reserved(Raise {
-            number: self.table.raised(),
-            whom: tracer_of(thread),
-            id: thread.id,
-            status: stop.status(),
-        });
+        let raise = self.table.enter(id, stop);
+        push_raise(&mut self.raises, &raise);
     }
 
     /// The report of a dead thread's death.
@@ -166,28 +145,9 @@ impl Step {
         requires { 1 ≤ self.old.room }
         ensures { Moves (report_death id end.now) 1 self.old self.new }
     {
-        let Some(thread) = self.table.find(id) else {
-            return;
-        };
-        if thread.life.is_dead() {
-            let thread = *thread;
-            self.raise(&thread, &end.status());
-        }
-    }
-
-    #[tactic(auto, using(crate::proofs::Helds::helds_changed))]
-    fn raise(&mut self, thread: &Thread, status: &Status)
-        requires { 1 ≤ self.old.room }
-        ensures { Moves (raise thread.now status.now) 1 self.old self.new }
-    {
         self.room -= 1;
-        self.table.report(thread.id, status);
-        self.raises.push_reserved(Raise {
-            number: self.table.raised(),
-            whom: tracer_of(thread),
-            id: thread.id,
-            status: *status,
-        });
+        let raise = self.table.report_death(id, end);
+        push_raise(&mut self.raises, &raise);
     }
 
     /// A dead thread goes.
@@ -212,7 +172,8 @@ impl Step {
         ensures { Moves (become Flushed
             (at_group tgid (begun_to_leave kill end.now))) 0 self.old self.new }
     {
-        self.table.leave(tgid, kill, end, &mut self.ended);
+        let change = ThreadChange::BeginToLeave(kill, *end);
+        self.table.change_and_flush(tgid, &change, &mut self.ended);
     }
 
     /// Each other thread of a group that isn't dead begins to leave, since the thread with the id has called execve(2),
@@ -222,29 +183,23 @@ impl Step {
         ensures { Moves (become Flushed
             (at_group tgid (begun_to_leave_by_exec id end.now))) 0 self.old self.new }
     {
-        self.table.leave_for_exec(tgid, id, end, &mut self.ended);
+        let change = ThreadChange::LeaveForExec(id, *end);
+        self.table.change_and_flush(tgid, &change, &mut self.ended);
     }
 
-    /// A free thread enters a signal-delivery-stop, which holds the pending instance.
-    #[tactic(auto, using(crate::proofs::Helds::fewer_without, crate::proofs::Helds::helds_changed))]
-    pub fn hold(&mut self, thread: &Thread, instance: &Instance)
+    /// A thread enters a signal-delivery-stop, which holds the pending instance, if it may.
+    #[tactic(auto, using(crate::proofs::Helds::fewer_without))]
+    pub fn hold(&mut self, id: u32, instance: &Instance)
         requires { 1 ≤ self.old.room }
-        ensures { Moves (λ w. entered_now (stop.Signal instance.now false) thread.now
-            (pulled instance.now w)) 1 self.old self.new }
+        ensures { Moves (λ w. enter id (stop.Signal instance.now false) (pulled instance.now w)) 1
+            self.old self.new }
     {
-        self.room -= 1;
         self.table.pull(instance.n);
         let stop = Stop::Signal {
             held: *instance,
             cont_came: false,
         };
-        self.table.enter(thread.id, &stop);
-        self.raises.push_reserved(Raise {
-            number: self.table.raised(),
-            whom: tracer_of(thread),
-            id: thread.id,
-            status: stop.status(),
-        });
+        self.enter(id, &stop);
     }
 
     /// A thread is restarted from its stop, and what that held ends with this fate.
@@ -253,10 +208,8 @@ impl Step {
         requires there { thread_of self.old.work.table thread.now.id ≡ Some thread.now }
         ensures { Moves (resume fate thread.now) 0 self.old self.new }
     {
-        let mut restarted = *thread;
-        let held = restarted.restart();
-        end_held(&mut self.ended, &held, fate);
-        self.table.put_thread(&restarted);
+        end_held(&mut self.ended, &thread.life.held(), fate);
+        self.table.change_thread(thread.id, &ThreadChange::Restart);
     }
 
     /// A tracee listens, if it is in an event stop; that held nothing.
@@ -264,9 +217,7 @@ impl Step {
         requires there { thread_of self.old.work.table thread.now.id ≡ Some thread.now }
         ensures { Moves (listen thread.now) 0 self.old self.new }
     {
-        let mut listening = *thread;
-        listening.listen();
-        self.table.put_thread(&listening);
+        self.table.change_thread(thread.id, &ThreadChange::Listen);
     }
 
     /// A new thread comes last in the table. Where memory is refused nothing has changed.
@@ -286,15 +237,9 @@ impl Step {
         requires { 1 ≤ self.old.room }
         ensures { Moves (take_place id) 1 self.old self.new }
     {
-        let Some(thread) = self.table.find(id) else {
-            return;
-        };
-        if thread.life.is_execing() && !thread.is_leader() {
-            let leader = thread.group;
-            self.room -= 1;
-            self.table.rename(id);
-            self.renamed.push_reserved(leader);
-        }
+        self.room -= 1;
+        let leader = self.table.take_place(id);
+        push_id(&mut self.renamed, leader);
     }
 
     /// The death of a group began.
@@ -316,12 +261,40 @@ impl Step {
     }
 }
 
-fn tracer_of(thread: &Thread) -> Option<u32>
-    ensures { result ≡ tracer_of thread.now.trace }
+/// Appends a report, if one was raised.
+fn push_raise(raises: &mut Vec<Raise>, raise: &Option<Raise>)
+    requires { vec_len raises.old < vec_capacity raises.old }
+    ensures items { raises.new.items ≡ raises.old.items ++ option_to_list raise.now }
+    ensures len { vec_len raises.new ≤ vec_len raises.old + 1 }
+    ensures capacity { vec_capacity raises.new ≡ vec_capacity raises.old }
 {
-    match &thread.trace {
-        Some(trace) => Some(trace.tracer),
-        None => None,
+    if let Some(
+        Raise {
+            number,
+            whom,
+            id,
+            status,
+        },
+    ) = raise
+    {
+        raises.push_reserved(Raise {
+            number: *number,
+            whom: *whom,
+            id: *id,
+            status: *status,
+        });
+    }
+}
+
+/// Appends the id that a thread took, if it took one.
+fn push_id(ids: &mut Vec<u32>, id: Option<u32>)
+    requires { vec_len ids.old < vec_capacity ids.old }
+    ensures items { ids.new.items ≡ ids.old.items ++ option_to_list id }
+    ensures len { vec_len ids.new ≤ vec_len ids.old + 1 }
+    ensures capacity { vec_capacity ids.new ≡ vec_capacity ids.old }
+{
+    if let Some(id) = id {
+        ids.push_reserved(id);
     }
 }
 

@@ -1,9 +1,10 @@
 -- The threads of a group, one after the other by their ids; and how many of them pass a test.
 use Rattle.std.proofs.Common.{◌≡◌, ◌==◌, ◌&&◌, ◌≤◌, ◌∙◌, ◌⊎◌, inl, inr, ℕ, zero, suc, List, [], ◌∷◌, Bool, true, false, Option, Some, cond, drop, if◌then◌else◌, filter, length, map, arith, refl, ap, sym, eq-eqb, ◌<◌, None, get_or}
 use Rattle.std.specs.List.{list_all, list_any}
+use Rattle.std.specs.Prelude.{slice_get}
+use Rattle.std.proofs.lemmas.Option.{slice_get-get_or}
 use Rattle.std.proofs.lemmas.Bool.{cases_eq, ne_eqb}
 use Rattle.std.proofs.lemmas.List.Folds.{list_all-map}
-use Rattle.tr_group.specs.Members.{at_place, member}
 use Rattle.tr_tracee.specs.declared.thread.Thread.{Thread}
 use Rattle.tr_tracee.specs.Threads.{at_group, in_group}
 use Rattle.tr_model.specs.Journals.{occurs}
@@ -91,18 +92,11 @@ found_at g ts i d once h = at_both (thread_in ts) (ids_in g ts) (filter (in_grou
 pub is_there : (g : ℕ) (ts : List Thread) (i : ℕ) → ((n : ℕ) → occurs n (ids_of ts) ≤ 1) → i < length (filter (in_group g) ts) → (t : Thread) × (thread_in ts (get_or (ids_in g ts) i 0) ≡ Some t)
 is_there g ts i once h = let d = nth (filter (in_group g) ts) i h in (get_or (filter (in_group g) ts) i d, found_at g ts i d once h)
 
-member_at : (g i : ℕ) (ts : List Thread) (d : Thread) → i < length (filter (in_group g) ts) → member g i ts ≡ Some (get_or (filter (in_group g) ts) i d)
-member_at g i [] d h = absurd (omega (arith, h))
-member_at g i (t ∷ ts) d h = go i (t.group == g) h (λ j. member_at g j ts d)
-  where
-    go : (i : ℕ) (b : Bool) → i < length (cond b (t ∷ filter (in_group g) ts) (filter (in_group g) ts)) → ((j : ℕ) → j < length (filter (in_group g) ts) → member g j ts ≡ Some (get_or (filter (in_group g) ts) j d))
-        → (if b then at_place i t (λ j. member g j ts) else member g i ts) ≡ Some (get_or (cond b (t ∷ filter (in_group g) ts) (filter (in_group g) ts)) i d)
-    go zero true l r = refl
-    go (suc i) true l r = r i (omega (arith, l))
-    go i false l r = r i l
-
-pub member_found : (g i : ℕ) (ts : List Thread) (d : Thread) → ((n : ℕ) → occurs n (ids_of ts) ≤ 1) → i < length (filter (in_group g) ts) → thread_in ts (get_or (ids_in g ts) i 0) ≡ member g i ts
-member_found g i ts d once h = found_at g ts i d once h ∙ sym (member_at g i ts d h)
+-- which is the one at that place
+pub member_found : (g i : ℕ) (ts : List Thread) → ((n : ℕ) → occurs n (ids_of ts) ≤ 1) → i < length (filter (in_group g) ts) → thread_in ts (get_or (ids_in g ts) i 0) ≡ slice_get (filter (in_group g) ts) i
+member_found g i ts once h =
+    let d = nth (filter (in_group g) ts) i h in
+    found_at g ts i d once h ∙ sym (slice_get-get_or (filter (in_group g) ts) i d h)
 
 -- each is changed
 

@@ -90,3 +90,12 @@ all_taken (n ∷ ns) (suc i) h = ap (λ (ms : List ℕ). n ∷ ms) (all_taken ns
 -- and once all of them are gone through
 pub ends_of_all : (f : Thread → Thread) (g : ℕ) (ts : List Thread) (ns : List ℕ) (i : ℕ) → ((n : ℕ) → occurs n (ids_of ts) ≤ 1) → ns ≡ ids_in g ts → length ns ≤ i → flat_map (λ n. ends_of f (thread_in ts n)) (take i ns) ≡ flat_map (ended_by_change Flushed (at_group g f)) ts
 ends_of_all f g ts ns i once e le = ap (λ ms. flat_map (λ n. ends_of f (thread_in ts n)) ms) (all_taken ns i le ∙ e) ∙ ends_by_ids f g ts once
+
+-- no more threads hold one than there are
+pub few_of_all : (ts : List Thread) → held_count ts ≤ length ts
+few_of_all [] = omega arith
+few_of_all (t ∷ ts) = go (is_some (held t.life)) (few_of_all ts)
+  where
+    go : (b : Bool) → held_count ts ≤ length ts → bool_to_nat b + held_count ts ≤ suc (length ts)
+    go true h = omega (arith, h)
+    go false h = omega (arith, h)

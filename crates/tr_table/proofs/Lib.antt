@@ -10,7 +10,7 @@ pub mod Keys
 pub mod Standing
 pub mod Firsts
 pub mod Entries
-pub mod Reaiming
+pub mod Retargeting
 pub mod Delivering
 pub mod Holding
 pub mod LeftLines
@@ -34,3 +34,4 @@ pub mod Leaders
 pub mod Onlys
 pub mod ThreadLists
 pub mod Targets
+pub mod Moving

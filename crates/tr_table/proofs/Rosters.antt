@@ -1,11 +1,10 @@
 -- No two threads of a table get one id, and no group more than 64 threads.
-use Rattle.std.proofs.Common.{◌≡◌, ◌==◌, ◌&&◌, ◌+◌, ◌<◌, ◌≤◌, ◌∙◌, ◌⊎◌, inl, inr, ℕ, suc, zero, List, [], ◌∷◌, ◌++◌, Bool, true, false, if◌then◌else◌, Some, None, Result, Ok, Err, filter, length, map, cond, arith, refl, sym, ap, subst}
+use Rattle.std.proofs.Common.{◌≡◌, ◌==◌, ◌&&◌, ◌+◌, ◌<◌, ◌≤◌, ◌∙◌, ◌⊎◌, inl, inr, ℕ, suc, zero, List, [], ◌∷◌, ◌++◌, Bool, true, false, if◌then◌else◌, Some, None, Result, Ok, Err, filter, get_or, length, map, set, cond, arith, refl, sym, ap, subst}
 use Rattle.std.specs.Prelude.{OnErr, OnOk}
 use Rattle.std.proofs.lemmas.Bool.{and_parts, cases_eq, eq-eqb, eqb-true, ne_eqb}
 use Rattle.tr_tracee.specs.declared.thread.Thread.{Thread}
 use Rattle.tr_tracee.specs.Lives.{is_dead}
 use Rattle.tr_tracee.specs.Threads.{in_group}
-use Rattle.tr_group.specs.Members.{at_place, count_in, member, put_member, put_place}
 use Rattle.tr_model.specs.Moves.{changed, dropped, in_leaders_row, renamed}
 use Rattle.tr_model.specs.Tables.{thread_in}
 use Rattle.tr_model.proofs.Between.{ids_total}
@@ -26,15 +25,6 @@ in_all g (t ∷ ts) = go (t.group == g) (in_all g ts)
     go : (b : Bool) → total (is_of g) ts ≡ length (filter (in_group g) ts) → one b + total (is_of g) ts ≡ length (cond b (t ∷ filter (in_group g) ts) (filter (in_group g) ts))
     go true h = omega (arith, h)
     go false h = omega (arith, h)
-
--- as the code counts
-pub counted : (g : ℕ) (ts : List Thread) → count_in g ts ≡ length (filter (in_group g) ts)
-counted g [] = refl
-counted g (t ∷ ts) = go (t.group == g) (counted g ts)
-  where
-    go : (b : Bool) → count_in g ts ≡ length (filter (in_group g) ts) → (if b then suc (count_in g ts) else count_in g ts) ≡ length (cond b (t ∷ filter (in_group g) ts) (filter (in_group g) ts))
-    go true h = ap suc h
-    go false h = h
 
 by_totals : (ts : List Thread) → ((n : ℕ) → total (has_id n) ts ≤ 1) → ((g : ℕ) → total (is_of g) ts ≤ 64) → IsRoster ts
 by_totals ts d f = record { distinct = λ n. omega (arith, ids_total n ts, d n); few = λ g. omega (arith, in_all g ts, f g) }
@@ -82,6 +72,19 @@ roster_changed id f ts s h =
     by_totals (changed id f ts)
     (λ n. omega (arith, total_first (has_id n) id f ts (λ t e. same_id n t (f t) (s t e)), one_at_most n ts h))
     (λ g. omega (arith, total_first (is_of g) id f ts (λ t e. same_group g t (f t) (s t e)), few_at_most g ts h))
+
+-- where the record at a place is another one
+
+total_set : (m : Thread → ℕ) (i : ℕ) (d y : Thread) (ts : List Thread) → m y ≡ m (get_or ts i d) → total m (set ts i y) ≡ total m ts
+total_set m i d y [] e = refl
+total_set m zero d y (t ∷ ts) e = omega (arith, e)
+total_set m (suc i) d y (t ∷ ts) e = omega (arith, total_set m i d y ts e)
+
+pub roster_set : (i : ℕ) (d y : Thread) (ts : List Thread) → Same (get_or ts i d) y → IsRoster ts → IsRoster (set ts i y)
+roster_set i d y ts s h =
+    by_totals (set ts i y)
+    (λ n. omega (arith, total_set (has_id n) i d y ts (same_id n (get_or ts i d) y s), one_at_most n ts h))
+    (λ g. omega (arith, total_set (is_of g) i d y ts (same_group g (get_or ts i d) y s), few_at_most g ts h))
 
 -- threads that go
 
@@ -177,22 +180,3 @@ module _ (t : Thread) where
 pub roster_grown : {A B : Type 0} (r : Result A B) (t : Thread) (ts us : List Thread) → OnOk r (us ≡ ts ++ t ∷ []) → OnErr r (us ≡ ts) → thread_in ts t.id ≡ None → length (filter (in_group t.group) ts) < 64 → IsRoster ts → IsRoster us
 roster_grown (Ok a) t ts us e f new room h = subst IsRoster (sym e) (roster_added t ts new room h)
 roster_grown (Err b) t ts us e f new room h = subst IsRoster (sym f) h
-
--- where the record at a place of a group is written
-
-total_put : (m : Thread → ℕ) (g i : ℕ) (x : Thread) (ts : List Thread) → ((t : Thread) → member g i ts ≡ Some t → m x ≡ m t) → total m (put_member g i x ts) ≡ total m ts
-total_put m g i x [] s = refl
-total_put m g i x (t ∷ ts) s = go i (t.group == g) s (λ j. total_put m g j x ts)
-  where
-    go : (i : ℕ) (b : Bool) → ((u : Thread) → (if b then at_place i t (λ j. member g j ts) else member g i ts) ≡ Some u → m x ≡ m u)
-        → ((j : ℕ) → ((u : Thread) → member g j ts ≡ Some u → m x ≡ m u) → total m (put_member g j x ts) ≡ total m ts)
-        → total m (if b then put_place i x t ts (λ j. put_member g j x ts) else t ∷ put_member g i x ts) ≡ m t + total m ts
-    go zero true k r = omega (arith, k t refl)
-    go (suc i) true k r = omega (arith, r i k)
-    go i false k r = omega (arith, r i k)
-
-pub roster_put : (g i : ℕ) (x : Thread) (ts : List Thread) → ((t : Thread) → member g i ts ≡ Some t → (t.id ≡ x.id) × (t.group ≡ x.group)) → IsRoster ts → IsRoster (put_member g i x ts)
-roster_put g i x ts s h =
-    by_totals (put_member g i x ts)
-    (λ n. omega (arith, total_put (has_id n) g i x ts (λ t e. ap (λ (k : ℕ). one (k == n)) (sym (s t e).0)), one_at_most n ts h))
-    (λ k. omega (arith, total_put (is_of k) g i x ts (λ t e. ap (λ (j : ℕ). one (j == k)) (sym (s t e).1)), few_at_most k ts h))

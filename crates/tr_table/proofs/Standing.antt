@@ -15,7 +15,7 @@ use Rattle.tr_model.specs.Journals.{AllAbove, IsSorted}
 use Rattle.tr_model.specs.Moves.{instance_in, retargeted, without_instance}
 use Rattle.tr_table.specs.declared.slots.Slot.{Slot}
 use Rattle.tr_table.specs.Queues.{AllBelow}
-use Rattle.tr_table.specs.Slots.{IsTrimmed, all_in, emptied, reaimed, standing, without_picked}
+use Rattle.tr_table.specs.Slots.{IsTrimmed, all_in, emptied, retargeted_slot, standing, without_picked}
 use Rattle.tr_table.proofs.LeftLines.{above_at}
 use Rattle.tr_table.proofs.Orders.{sorted_last}
 
@@ -301,21 +301,21 @@ pub sorted_closed : (p : Slot → Bool) (ss : List Slot) → IsSorted (all_in ss
 sorted_closed p [] h = tt
 sorted_closed p (s ∷ ss) h = elim (p s) as (λ b. IsSorted (all_in (if b then s ∷ filter p ss else filter p ss))) [ true ↦ (above_closed p (number s) ss h.0, sorted_closed p ss h.1) | false ↦ sorted_closed p ss h.1 ]
 
-pub standing_reaimed : (from to : ℕ) (ss : List Slot) → standing (map (reaimed from to) ss) ≡ map (retargeted from to) (standing ss)
-standing_reaimed from to [] = refl
-standing_reaimed from to (s ∷ ss) = go s.gone (standing_reaimed from to ss)
+pub standing_retargeted : (from to : ℕ) (ss : List Slot) → standing (map (retargeted_slot from to) ss) ≡ map (retargeted from to) (standing ss)
+standing_retargeted from to [] = refl
+standing_retargeted from to (s ∷ ss) = go s.gone (standing_retargeted from to ss)
   where
-    go : (b : Bool) → standing (map (reaimed from to) ss) ≡ map (retargeted from to) (standing ss) → (if b then standing (map (reaimed from to) ss) else retargeted from to s.waiting ∷ standing (map (reaimed from to) ss)) ≡ map (retargeted from to) (if b then standing ss else s.waiting ∷ standing ss)
+    go : (b : Bool) → standing (map (retargeted_slot from to) ss) ≡ map (retargeted from to) (standing ss) → (if b then standing (map (retargeted_slot from to) ss) else retargeted from to s.waiting ∷ standing (map (retargeted_slot from to) ss)) ≡ map (retargeted from to) (if b then standing ss else s.waiting ∷ standing ss)
     go true h = h
     go false h = ap (λ vs. retargeted from to s.waiting ∷ vs) h
 
-above_reaimed : (from to n : ℕ) (ss : List Slot) → AllAbove n (all_in ss) → AllAbove n (all_in (map (reaimed from to) ss))
-above_reaimed from to n [] h = tt
-above_reaimed from to n (s ∷ ss) h = (h.0, above_reaimed from to n ss h.1)
+above_retargeted : (from to n : ℕ) (ss : List Slot) → AllAbove n (all_in ss) → AllAbove n (all_in (map (retargeted_slot from to) ss))
+above_retargeted from to n [] h = tt
+above_retargeted from to n (s ∷ ss) h = (h.0, above_retargeted from to n ss h.1)
 
-pub sorted_aimed : (from to : ℕ) (ss : List Slot) → IsSorted (all_in ss) → IsSorted (all_in (map (reaimed from to) ss))
+pub sorted_aimed : (from to : ℕ) (ss : List Slot) → IsSorted (all_in ss) → IsSorted (all_in (map (retargeted_slot from to) ss))
 sorted_aimed from to [] h = tt
-sorted_aimed from to (s ∷ ss) h = (above_reaimed from to (number s) ss h.0, sorted_aimed from to ss h.1)
+sorted_aimed from to (s ∷ ss) h = (above_retargeted from to (number s) ss h.0, sorted_aimed from to ss h.1)
 
 pub standing_picked : (p : Waiting → Bool) (ss : List Slot) → standing (map (without_picked p) ss) ≡ filter (λ w. not (p w)) (standing ss)
 standing_picked p [] = refl

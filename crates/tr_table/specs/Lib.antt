@@ -14,3 +14,4 @@ pub mod Tracing
 pub mod Waits
 pub mod Private
 pub mod Snapshots
+pub mod Moved

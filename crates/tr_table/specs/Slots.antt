@@ -27,8 +27,8 @@ abbrev pub emptied : Slot → Slot
 emptied s = record s { gone = true }
 
 -- with what waits for one thread waiting for another
-abbrev pub reaimed : ℕ → ℕ → Slot → Slot
-reaimed from to s = record s { waiting = retargeted from to s.waiting }
+abbrev pub retargeted_slot : ℕ → ℕ → Slot → Slot
+retargeted_slot from to s = record s { waiting = retargeted from to s.waiting }
 
 -- without what the test picks: its slots stay
 abbrev pub without_picked : (Waiting → Bool) → Slot → Slot

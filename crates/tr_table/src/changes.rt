@@ -5,26 +5,19 @@ ghost use Rattle.tr_model.specs.Moves.{changed, ended_by_change, ending_of, grou
 ghost use Rattle.tr_model.specs.Tables.{Table};
 ghost use Rattle.tr_model.specs.Tables.{action_of, all_dead, has_live, has_stop_mark, has_traced, members, owner, queue, stop_of, end_of, group_of, thread_of};
 ghost use Rattle.tr_pending.specs.Waiting.{best_of, is_waiting};
-ghost use Rattle.tr_tracee.specs.Ends.{begun_to_leave, begun_to_leave_by_exec};
-ghost use Rattle.tr_tracee.specs.Marks.{cont_noted, marked};
-ghost use Rattle.tr_tracee.specs.Stops.{entered_as, reported};
 ghost use Rattle.tr_tracee.specs.Threads.{at_group, at_thread};
-ghost use Rattle.tr_group.specs.Members.{continued_by};
 ghost use Rattle.tr_table.specs.Changes.{group_changed_by, is_flushed, thread_changed_by};
 ghost use Rattle.tr_table.specs.Held.{held_count};
 ghost use Rattle.tr_table.specs.Queues.{AllBelow};
 
 use crate::groups::GroupChange;
-use crate::member_changes::log_leaving;
 use crate::picked::{Flush, Picked};
 use crate::table::Table;
-use crate::threads::ThreadChange;
+use crate::thread_changes::ThreadChange;
 use std::alloc::AllocError;
-use tr_group::{continue_all, initiate, leave_all, note_cont};
 use tr_model::{Ending, Fate, Target, Waiting};
 use tr_pending::{Info, Instance};
 use tr_sigset::Signal;
-use tr_tracee::{End, Stop};
 use tr_wait::Status;
 
 // What happens to a table, one list at a time. Only `reserve` takes memory.
@@ -42,137 +35,59 @@ impl Table {
         self.pending.reserve(more)
     }
 
-    /// A group-stop begins for the threads of a group: they are marked.
-    pub fn mark_all(&mut self, tgid: u32)
+    /// What happens to each thread of a group. What that takes out of a signal-delivery-stop is the caller's to tell.
+    pub fn change_members(&mut self, tgid: u32, change: &ThreadChange)
         ensures { self.new
             ≡ record self.old {
               table = record self.old.table {
-                threads = map (at_group tgid marked) self.old.table.threads;
+                threads = map
+                    (at_group tgid (thread_changed_by change.now)) self.old.table.threads;
               };
             } }
     {
-        initiate(&mut self.threads, tgid);
+        self.threads.change_members(tgid, change);
     }
 
-    /// A SIGCONT comes to the threads of a group; `in_effect` says whether a group-stop is in effect.
-    pub fn continue_threads(&mut self, tgid: u32, in_effect: bool)
-        ensures { self.new
-            ≡ record self.old {
-              table = record self.old.table {
-                threads = map (at_group tgid (continued_by in_effect)) self.old.table.threads;
-              };
-            } }
-    {
-        continue_all(&mut self.threads, tgid, in_effect);
-    }
-
-    /// Each signal-delivery-stop of a group notes that a SIGCONT came.
-    pub fn note_cont(&mut self, tgid: u32)
-        ensures { self.new
-            ≡ record self.old {
-              table = record self.old.table {
-                threads = map (at_group tgid cont_noted) self.old.table.threads;
-              };
-            } }
-    {
-        note_cont(&mut self.threads, tgid);
-    }
-
-    /// Each thread of a group that isn't dead begins to leave. What they held is flushed, and appended to `ended`.
-    pub fn leave(&mut self, tgid: u32, kill: bool, end: &End, ended: &mut Vec<Ending>)
+    /// What happens to each thread of a group. What that takes out of a signal-delivery-stop is flushed, and appended to
+    /// `ended`.
+    pub fn change_and_flush(&mut self, tgid: u32, change: &ThreadChange, ended: &mut Vec<Ending>)
         requires { vec_len ended.old + held_count self.old.table.threads ≤ vec_capacity ended.old }
         ensures table { self.new
             ≡ record self.old {
               table = record self.old.table {
                 threads = map
-                    (at_group tgid (begun_to_leave kill end.now)) self.old.table.threads;
+                    (at_group tgid (thread_changed_by change.now)) self.old.table.threads;
               };
             } }
         ensures ended { ended.new.items
             ≡ ended.old.items
             ++ flat_map
             (ended_by_change Flushed
-            (at_group tgid (begun_to_leave kill end.now))) self.old.table.threads }
+            (at_group tgid (thread_changed_by change.now))) self.old.table.threads }
         ensures len { vec_len ended.new
             ≡ vec_len ended.old
             + length (flat_map
             (ended_by_change Flushed
-            (at_group tgid (begun_to_leave kill end.now))) self.old.table.threads) }
+            (at_group tgid (thread_changed_by change.now))) self.old.table.threads) }
         ensures capacity { vec_capacity ended.new ≡ vec_capacity ended.old }
     {
-        log_leaving(ended, &self.threads, tgid, kill, end);
-        leave_all(&mut self.threads, tgid, kill, end);
+        self.threads.log_flushed(tgid, change, ended);
+        self.threads.change_members(tgid, change);
     }
 
-    /// Each other thread of a group that isn't dead begins to leave, since the thread with the id has called execve(2).
-    /// What they held is flushed, and appended to `ended`.
-    pub fn leave_for_exec(&mut self, tgid: u32, id: u32, end: &End, ended: &mut Vec<Ending>)
-        requires { vec_len ended.old + held_count self.old.table.threads ≤ vec_capacity ended.old }
-        ensures table { self.new
-            ≡ record self.old {
-              table = record self.old.table {
-                threads = map
-                    (at_group tgid (begun_to_leave_by_exec id end.now)) self.old.table.threads;
-              };
-            } }
-        ensures ended { ended.new.items
-            ≡ ended.old.items
-            ++ flat_map
-            (ended_by_change Flushed
-            (at_group tgid (begun_to_leave_by_exec id end.now))) self.old.table.threads }
-        ensures len { vec_len ended.new
-            ≡ vec_len ended.old
-            + length (flat_map
-            (ended_by_change Flushed
-            (at_group tgid (begun_to_leave_by_exec id end.now))) self.old.table.threads) }
-        ensures capacity { vec_capacity ended.new ≡ vec_capacity ended.old }
-    {
-        self.threads.leave_for_exec(tgid, id, end, ended);
-    }
-
-    /// What happens to the record of a thread.
+    /// What happens to the record of the thread with the id, which is the only one with it.
     pub fn change_thread(&mut self, id: u32, change: &ThreadChange)
-        ensures { self.new
+        ensures table { self.new
             ≡ record self.old {
               table = record self.old.table {
                 threads = map
                     (at_thread id (thread_changed_by change.now)) self.old.table.threads;
               };
             } }
+        ensures only { map (at_thread id (thread_changed_by change.now)) self.old.table.threads
+            ≡ changed id (thread_changed_by change.now) self.old.table.threads }
     {
         self.threads.change(id, change);
-    }
-
-    /// A thread enters a ptrace-stop with the next report.
-    pub fn enter(&mut self, id: u32, stop: &Stop)
-        requires { self.old.table.raised + 1 < 2 ^ 64 }
-        ensures { self.new
-            ≡ record self.old {
-              table = record self.old.table {
-                threads = changed id
-                    (entered_as (self.old.table.raised + 1) stop.now) self.old.table.threads;
-                raised = self.old.table.raised + 1;
-              };
-            } }
-    {
-        self.raised += 1;
-        self.threads.enter(id, self.raised, stop);
-    }
-
-    /// The next report, on a thread.
-    pub fn report(&mut self, id: u32, status: &Status)
-        requires { self.old.table.raised + 1 < 2 ^ 64 }
-        ensures { self.new
-            ≡ record self.old {
-              table = record self.old.table {
-                threads = changed id
-                    (reported (self.old.table.raised + 1) status.now) self.old.table.threads;
-                raised = self.old.table.raised + 1;
-              };
-            } }
-    {
-        self.raised += 1;
-        self.threads.report(id, self.raised, status);
     }
 
     /// What happens to the record of a group.

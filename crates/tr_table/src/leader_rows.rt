@@ -1,7 +1,7 @@
-ghost use Rattle.std.specs.Prelude.{◌≡◌, ◌<◌, length, Some, get_or, map, remove};
+ghost use Rattle.std.specs.Prelude.{◌≡◌, ◌<◌, length, get_or, map, remove};
 ghost use Rattle.tr_tracee.specs.Lives.{is_dead};
-ghost use Rattle.tr_model.specs.Moves.{dropped, in_leaders_row};
-ghost use Rattle.tr_model.specs.Tables.{ids_of, thread_in};
+ghost use Rattle.tr_model.specs.Moves.{in_leaders_row};
+ghost use Rattle.tr_model.specs.Tables.{ids_of};
 ghost use Rattle.tr_table.specs.Private.{IsLeaderPlace, IsThreads};
 ghost use Rattle.tr_table.specs.Tracing.{HasPlaces, IsTracing};
 
@@ -14,21 +14,20 @@ use tr_tracee::Thread;
 // A thread takes the row of its dead leader: "execve(2) under ptrace" of ptrace(2).
 
 impl Threads {
-    /// A thread takes the place and the id of its dead leader.
-    pub(crate) fn take_place(&mut self, thread: &Thread)
-        requires { thread_in self.old thread.now.id ≡ Some thread.now }
-        ensures { self.new ≡ map (in_leaders_row thread.now) (dropped thread.now.id self.old) }
+    /// The thread at a place takes the place and the id of its dead leader.
+    pub(crate) fn take_place(&mut self, place: usize, thread: &Thread)
+        requires place { place < length self.old }
+        requires there { thread.now ≡ get_or self.old place thread.now }
+        ensures { self.new ≡ map (in_leaders_row thread.now) (remove self.old place) }
     {
-        if let Some(place) = self.place(thread.id) {
-            move_up(
-                &mut self.list,
-                &mut self.index,
-                &mut self.rosters,
-                &mut self.tracing,
-                place,
-                thread,
-            );
-        }
+        move_up(
+            &mut self.list,
+            &mut self.index,
+            &mut self.rosters,
+            &mut self.tracing,
+            place,
+            thread,
+        );
     }
 }
 

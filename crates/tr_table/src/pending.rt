@@ -14,7 +14,7 @@ use crate::lines::{
     Line, LineKey, Queue, enter_all, enter_line, enter_queue, leave_line, leave_queue,
 };
 use crate::picked::{Flush, Picked, is_picked, log_picked};
-use crate::slots::{Slot, close_up, place_of, reaim, trim};
+use crate::slots::{Slot, close_up, place_of, retarget, trim};
 use crate::threads::Threads;
 use indexmap::IndexMap;
 use std::alloc::{AllocError, Global};
@@ -242,7 +242,7 @@ impl Pending {
     }
 
     /// What waits for one thread waits for another.
-    pub(crate) fn reaim(&mut self, from: u32, to: u32)
+    pub(crate) fn retarget(&mut self, from: u32, to: u32)
         requires { IsPending self.old }
         ensures kept { IsPending self.new }
         ensures waiting { standing self.new.slots.items
@@ -252,7 +252,7 @@ impl Pending {
         if self.queue_len(Target::Thread(from)) == 0 {
             return;
         }
-        reaim(&mut self.slots, from, to);
+        retarget(&mut self.slots, from, to);
         self.lines.clear();
         self.queues.clear();
         enter_all(&mut self.lines, &mut self.queues, &self.slots);

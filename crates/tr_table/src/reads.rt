@@ -1,4 +1,4 @@
-ghost use Rattle.std.specs.Prelude.{◌≡◌, ◌<◌, ◌&&◌, length, map, slice_index};
+ghost use Rattle.std.specs.Prelude.{◌≡◌, ◌<◌, ◌&&◌, length, map, option_copied, slice_get, slice_index};
 ghost use Rattle.std.specs.List.{list_any};
 ghost use Rattle.tr_sigset.specs.Sets.{has};
 ghost use Rattle.tr_tracee.specs.Lives.{is_live};
@@ -53,6 +53,13 @@ impl Table {
         ensures { result ≡ length (members self.now.table tgid) }
     {
         self.threads.count_members(tgid)
+    }
+
+    /// The thread at a place of the group, from 0, in table order.
+    pub fn member(&self, tgid: u32, place: usize) -> Option<&Thread>
+        ensures { option_copied result ≡ slice_get (members self.now.table tgid) place }
+    {
+        self.threads.member(tgid, place)
     }
 
     /// Whether some thread of the group is live.

@@ -1,7 +1,8 @@
 ghost use Rattle.std.specs.Prelude.{◌≡◌, ◌<◌, ◌++◌, ◌∷◌, ◌==◌, [], None, OnErr, OnOk, Some, is_some, length};
 ghost use Rattle.tr_tracee.specs.declared.thread.Thread.{Thread};
-ghost use Rattle.tr_model.specs.Moves.{at, begin, changed, drop_empty, dropped, group_changed, remove_dead, with_leaders_row};
+ghost use Rattle.tr_model.specs.Moves.{begin, drop_empty, dropped, group_changed, remove_dead, take_place};
 ghost use Rattle.tr_model.specs.Tables.{members, thread_of};
+ghost use Rattle.tr_table.specs.Moved.{Renames};
 
 use crate::table::Table;
 use std::alloc::AllocError;
@@ -59,32 +60,20 @@ impl Table {
         self.groups.drop_empty(&self.threads, tgid);
     }
 
-    /// The thread with the id takes the place and the id of its dead leader, whose record goes, and what waits for it
-    /// goes with it: "execve(2) under ptrace" of ptrace(2). Nothing changes where there is no such thread.
-    pub fn rename(&mut self, id: u32)
-        ensures { self.new
-            ≡ record self.old { table = (at id with_leaders_row (begin self.old.table)).table } }
+    /// An execing thread takes the place and the id of its dead leader, whose record goes, and what waits for it goes with
+    /// it: "execve(2) under ptrace" of ptrace(2). Gives the id that it took. Nothing changes where there is no such thread,
+    /// or it is the leader.
+    pub fn take_place(&mut self, id: u32) -> Option<u32>
+        ensures { Renames (take_place id) self.old self.new result }
     {
-        if let Some(thread) = self.threads.find(id) {
-            let thread = *thread;
-            self.threads.take_place(&thread);
-            self.pending.reaim(thread.id, thread.group);
+        let place = self.threads.place(id)?;
+        let thread = *self.threads.at(place);
+        if !thread.life.is_execing() || thread.is_leader() {
+            return None;
         }
-    }
-
-    /// Writes the record of a thread, over that of the thread with its id. Its group stays what it was.
-    pub fn put_thread(&mut self, thread: &Thread)
-        requires same_group { (t : Thread)
-            → thread_of self.old.table thread.now.id ≡ Some t
-            → t.group ≡ thread.now.group }
-        ensures { self.new
-            ≡ record self.old {
-              table = record self.old.table {
-                threads = changed thread.now.id (λ _. thread.now) self.old.table.threads;
-              };
-            } }
-    {
-        self.threads.replace(thread);
+        self.threads.take_place(place, &thread);
+        self.pending.retarget(thread.id, thread.group);
+        Some(thread.group)
     }
 
     /// Writes the record of a group, over that of the first group with its id.

@@ -1,7 +1,7 @@
 ghost use Rattle.std.specs.Prelude.{◌≡◌, ◌<◌, IfNone, IfOk, ◌≤◌, IfSome, None, ◌-◌, false, get_or, length, map, take, true, vec_capacity, vec_len};
 ghost use Rattle.tr_model.specs.Journals.{IsSorted};
 ghost use Rattle.tr_model.specs.Moves.{instance_in, retarget};
-ghost use Rattle.tr_table.specs.Slots.{IsTrimmed, all_in, reaimed, standing};
+ghost use Rattle.tr_table.specs.Slots.{IsTrimmed, all_in, retargeted_slot, standing};
 ghost use Rattle.tr_table.specs.declared.slots.Slot.{Slot};
 
 use std::alloc::{AllocError, Global};
@@ -64,16 +64,16 @@ pub(crate) fn close_up(slots: &mut Vec<Slot>)
 }
 
 /// What waits for one thread waits for another.
-pub(crate) fn reaim(slots: &mut Vec<Slot>, from: u32, to: u32)
-    ensures items { slots.new.items ≡ map (reaimed from to) slots.old.items }
+pub(crate) fn retarget(slots: &mut Vec<Slot>, from: u32, to: u32)
+    ensures items { slots.new.items ≡ map (retargeted_slot from to) slots.old.items }
     ensures len { vec_len slots.new ≡ vec_len slots.old }
     ensures capacity { vec_capacity slots.new ≡ vec_capacity slots.old }
 {
-    reaim_each(slots, from, to);
+    retarget_each(slots, from, to);
 }
 
-fn reaim_each(slots: &mut [Slot], from: u32, to: u32)
-    ensures { slots.new ≡ map (reaimed from to) slots.old }
+fn retarget_each(slots: &mut [Slot], from: u32, to: u32)
+    ensures { slots.new ≡ map (retargeted_slot from to) slots.old }
 {
     for slot in slots.iter_mut() {
         slot.waiting.target = aimed(from, to, slot.waiting.target);

@@ -1,9 +1,6 @@
 ghost use Rattle.std.specs.Prelude.{◌≡◌, ◌<◌, ◌≤◌, ◌++◌, ◌∷◌, ◌==◌, ◌&&◌, [], ℕ, IfOk, None, OnErr, OnOk, length, Some, false, filter, get_or, not, option_copied, remove, slice_set};
 ghost use Rattle.tr_tracee.specs.Lives.{is_dead};
 ghost use Rattle.tr_tracee.specs.Threads.{in_group};
-ghost use Rattle.tr_tracee.specs.Ends.{begun_to_leave_by_exec};
-ghost use Rattle.tr_tracee.specs.Stops.{entered_as, reported};
-ghost use Rattle.tr_group.specs.Members.{applied};
 ghost use Rattle.tr_model.specs.Journals.{occurs};
 ghost use Rattle.tr_model.specs.Moves.{changed, dropped};
 ghost use Rattle.tr_model.specs.Tables.{ids_of, owner_in, thread_in};
@@ -14,15 +11,13 @@ ghost use Rattle.tr_table.specs.Rosters.{roster_in, roster_of};
 
 use crate::index::Index;
 use crate::roster_list::Rosters;
+use crate::thread_changes::ThreadChange;
 use crate::tracing::Tracing;
 use std::alloc::{AllocError, Global};
 use std::marker::Model;
 use std::slice;
-use tr_group::MemberChange;
 use tr_model::Target;
-use tr_sigset::{SigSet, Signal};
-use tr_tracee::{End, Options, Stop, Thread, Trace};
-use tr_wait::Status;
+use tr_tracee::Thread;
 
 /// The threads of a table, in table order.
 pub(crate) struct Threads {
@@ -53,41 +48,6 @@ impl Model for Threads {
     ghost view = { λ t. t.list.items };
 
     ghost invariant = { λ t. IsKept t.list.items t.index t.rosters t.tracing };
-}
-
-/// What happens to the record of one thread.
-#[derive(Clone, Copy, Debug)]
-pub enum ThreadChange {
-    /// It sets its mask.
-    Mask(SigSet),
-    /// It begins or ends a pause.
-    Pausing(bool),
-    /// It takes part in the group-stop: its stop mark is served.
-    Join,
-    /// It stops, if it runs.
-    Stop,
-    /// It loses its marks and ends its pause.
-    Unmark,
-    /// It leaves with this end, if it runs.
-    Leave(End),
-    /// It dies, if it leaves and has no exit stop before it.
-    Die,
-    /// It loses its tracer and its report, if it is dead.
-    Release,
-    /// It has no report any more.
-    WithdrawReport,
-    /// It is traced from now on, unless somebody traces it.
-    TraceBy(Trace),
-    /// It has these options from now on, if somebody traces it.
-    SetOptions(Options),
-    /// Its trap mark is set.
-    Interrupt,
-    /// Its tracing ends, unless it is in a ptrace-stop; the value says whether a group-stop is in effect.
-    Detach(bool),
-    /// It waits in execve(2), if it runs.
-    BeginExec,
-    /// It runs again, if it waited in execve(2).
-    EndExec,
 }
 
 /// The rosters of all groups of a list.
@@ -188,6 +148,14 @@ impl Threads {
         Some(&self.list[place])
     }
 
+    /// The record at a place.
+    pub(crate) fn at(&self, place: usize) -> &Thread
+        requires { place < length self.now }
+        ensures { (d : Thread) → result.now ≡ get_or self.now place d }
+    {
+        &self.list[place]
+    }
+
     pub(crate) fn as_slice(&self) -> &[Thread]
         ensures { result.now ≡ self.now }
     {
@@ -207,14 +175,27 @@ impl Threads {
         self.list[place] = *thread;
     }
 
+    /// What happens to the thread at a place.
+    pub(crate) fn change_at(&mut self, place: usize, change: &ThreadChange)
+        requires { place < length self.old }
+        ensures { (d : Thread)
+            → self.new
+            ≡ slice_set self.old place (thread_changed_by change.now (get_or self.old place d)) }
+    {
+        if !change.turns(&self.list[place]) {
+            return;
+        }
+        let mut thread = self.list[place];
+        change.make(&mut thread);
+        self.write(place, &thread);
+    }
+
     /// What happens to the thread with the id.
     pub(crate) fn change(&mut self, id: u32, change: &ThreadChange)
         ensures { self.new ≡ changed id (thread_changed_by change.now) self.old }
     {
         if let Some(place) = self.place(id) {
-            let mut thread = self.list[place];
-            change.make(&mut thread);
-            self.write(place, &thread);
+            self.change_at(place, change);
         }
     }
 
@@ -232,18 +213,6 @@ impl Threads {
             &mut self.tracing,
             thread,
         )
-    }
-
-    /// The record of the first thread with its id, whose group it has.
-    pub(crate) fn replace(&mut self, thread: &Thread)
-        requires { (t : Thread)
-            → thread_in self.old thread.now.id ≡ Some t
-            → t.group ≡ thread.now.group }
-        ensures { self.new ≡ changed thread.now.id (λ _. thread.now) self.old }
-    {
-        if let Some(place) = self.place(thread.id) {
-            self.write(place, thread);
-        }
     }
 
     /// The thread at a place goes, and those after it move up.
@@ -275,92 +244,6 @@ impl Threads {
                 self.remove_at(place);
             }
         }
-    }
-
-    /// The thread with the id enters a ptrace-stop, with the report of this number.
-    pub(crate) fn enter(&mut self, id: u32, number: u64, stop: &Stop)
-        ensures { self.new ≡ changed id (entered_as number stop.now) self.old }
-    {
-        if let Some(place) = self.place(id) {
-            let mut thread = self.list[place];
-            thread.enter(stop, number);
-            self.write(place, &thread);
-        }
-    }
-
-    /// What happens to the thread with the id, as to all of its group.
-    pub(crate) fn change_member(&mut self, id: u32, change: &MemberChange)
-        ensures { self.new ≡ changed id (applied change.now) self.old }
-    {
-        if let Some(place) = self.place(id) {
-            if !turns(change, &self.list[place]) {
-                return;
-            }
-            let mut thread = self.list[place];
-            change.make(&mut thread);
-            self.write(place, &thread);
-        }
-    }
-
-    /// The thread of an id begins to leave, unless it is the one that has called execve(2).
-    pub(crate) fn leave_one_for_exec(&mut self, member: u32, id: u32, end: &End)
-        ensures { self.new ≡ changed member (begun_to_leave_by_exec id end.now) self.old }
-    {
-        if let Some(place) = self.place(member) {
-            let mut thread = self.list[place];
-            thread.leave_for_exec(id, end);
-            self.write(place, &thread);
-        }
-    }
-
-    /// The thread with the id has the report of this number.
-    pub(crate) fn report(&mut self, id: u32, number: u64, status: &Status)
-        ensures { self.new ≡ changed id (reported number status.now) self.old }
-    {
-        if let Some(place) = self.place(id) {
-            let mut thread = self.list[place];
-            thread.set_report(number, status);
-            self.write(place, &thread);
-        }
-    }
-}
-
-impl ThreadChange {
-    ghost use Rattle.tr_table.specs.Changes.{thread_changed_by};
-
-    /// What it makes of a thread.
-    fn make(&self, thread: &mut Thread)
-        ensures { thread.new ≡ thread_changed_by self.now thread.old }
-    {
-        match self {
-            ThreadChange::Mask(set) => thread.set_mask(*set),
-            ThreadChange::Pausing(pausing) => thread.set_pausing(*pausing),
-            ThreadChange::Join => thread.join(),
-            ThreadChange::Stop => thread.stop(),
-            ThreadChange::Unmark => thread.unmark(),
-            ThreadChange::Leave(end) => thread.leave(end),
-            ThreadChange::Die => thread.die(),
-            ThreadChange::Release => thread.release(),
-            ThreadChange::WithdrawReport => thread.withdraw_report(),
-            ThreadChange::TraceBy(trace) => thread.trace_by(trace),
-            ThreadChange::SetOptions(options) => thread.set_options(options),
-            ThreadChange::Interrupt => thread.interrupt(),
-            ThreadChange::Detach(in_effect) => thread.detach(*in_effect),
-            ThreadChange::BeginExec => thread.begin_exec(),
-            ThreadChange::EndExec => thread.end_exec(),
-        }
-    }
-}
-
-/// Whether a change may make something else of a thread than it is.
-fn turns(change: &MemberChange, thread: &Thread) -> bool
-    ensures { result ≡ false → applied change.now thread.now ≡ thread.now }
-{
-    match change {
-        MemberChange::Mark => !thread.stop_mark && !thread.joined && thread.life.is_live(),
-        MemberChange::Continue(in_effect) => *in_effect || !thread.note_mark && thread.is_seized(),
-        MemberChange::NoteCont => thread.life.is_in_stop(),
-        MemberChange::Leave(..) => !thread.life.is_dead(),
     }
 }
 

@@ -42,20 +42,11 @@ impl Model for Tracing {
     } };
 }
 
-fn tracer_of(thread: &Thread) -> Option<u32>
-    ensures { result ≡ tracer thread.now }
-{
-    match &thread.trace {
-        Some(trace) => Some(trace.tracer),
-        None => None,
-    }
-}
-
 fn waiter_of(thread: &Thread) -> Option<u32>
     ensures { result ≡ waiter thread.now }
 {
     if thread.report.is_some() {
-        tracer_of(thread)
+        thread.tracer()
     } else {
         None
     }
@@ -167,7 +158,7 @@ impl Tracing {
         ensures places { (n : ℕ) → HasPlaces n self.old → HasPlaces n self.new }
     {
         let waiter = waiter_of(thread);
-        self.tracers.recount(None, tracer_of(thread));
+        self.tracers.recount(None, thread.tracer());
         self.waiters.recount(None, waiter);
         self.untraced_deaths = recounted(self.untraced_deaths, false, is_untraced_death(thread));
         if waiter.is_some() {
@@ -203,7 +194,7 @@ impl Tracing {
             was.is_some(),
             is.is_some(),
         );
-        self.tracers.recount(tracer_of(former), tracer_of(thread));
+        self.tracers.recount(former.tracer(), thread.tracer());
         self.waiters.recount(was, is);
         self.untraced_deaths = recounted(
             self.untraced_deaths,
@@ -232,7 +223,7 @@ impl Tracing {
             was.is_some(),
             false,
         );
-        self.tracers.recount(tracer_of(former), None);
+        self.tracers.recount(former.tracer(), None);
         self.waiters.recount(was, None);
         self.untraced_deaths = recounted(self.untraced_deaths, is_untraced_death(former), false);
     }

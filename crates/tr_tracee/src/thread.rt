@@ -1,5 +1,5 @@
 ghost use Rattle.std.specs.Prelude.{◌≡◌};
-ghost use Rattle.tr_tracee.specs.Threads.{has_mark, is_leader, is_ready_to_take, is_traced, is_tracee_of, no_options, options_of, seized};
+ghost use Rattle.tr_tracee.specs.Threads.{has_mark, is_leader, is_ready_to_take, is_traced, is_tracee_of, no_options, options_of, seized, tracer_of};
 
 use crate::life::Life;
 use tr_sigset::SigSet;
@@ -78,6 +78,16 @@ impl Thread {
         ensures { result ≡ is_leader self.now }
     {
         self.id == self.group
+    }
+
+    /// Who traces it, if anybody does.
+    pub fn tracer(&self) -> Option<u32>
+        ensures { result ≡ tracer_of self.now.trace }
+    {
+        match &self.trace {
+            Some(trace) => Some(trace.tracer),
+            None => None,
+        }
     }
 
     /// Whether somebody traces it.

@@ -1,24 +1,24 @@
 use super::many_threads::{sixteen, thousand};
 use super::*;
 use tr_model::GREATEST_ID;
-use tr_table::ThreadChange;
 use tr_tracee::{Options, Trace};
-use tr_wait::{Status, Which};
+use tr_wait::Which;
 
 // Tables that hold as much as a table can: threads, reports and queues.
 
-/// A tracer traces a thread, and a report is raised on it.
+/// A tracer traces a thread, which dies, and the report of its death is raised.
 fn raise(table: &mut Table, id: u32, tracer: u32) -> Result<(), Fail> {
-    if table.raised() > 20_000 {
-        Err("more reports than the tests raise")?;
-    }
     let trace = Trace {
         tracer,
         seized: true,
         options: Options::NONE,
     };
     table.change_thread(id, &ThreadChange::TraceBy(trace));
-    table.report(id, &Status::Clone);
+    kill_thread(table, id);
+    if table.raised() > 20_000 {
+        Err("more reports than the tests raise")?;
+    }
+    let _raised = table.report_death(id, &End::Exited(0));
     Ok(())
 }
 
@@ -143,8 +143,9 @@ fn send_fifty(table: &mut Table, target: Target) -> Result<(), Fail> {
 /// still there before it.
 fn goes_to_the_leader(rt: &impl Abort, table: &mut Table) -> Result<(), Fail> {
     send_fifty(table, OWN)?;
-    kill_thread(table, 100)?;
-    table.rename(101);
+    kill_thread(table, 100);
+    table.change_thread(101, &ThreadChange::BeginExec);
+    same(rt, &table.take_place(101), &Some(100));
     assert!(rt; table.find(101).is_none());
     same(rt, &table.queue_len(OWN), &0);
     same(rt, &table.queue_len(Target::Thread(100)), &50);

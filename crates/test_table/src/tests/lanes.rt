@@ -18,8 +18,8 @@ fn rows_are_in_table_order(rt: HostRuntime) -> Result<(), Fail> {
 #[test]
 fn the_dead_block_nothing_and_the_marked_wait(rt: HostRuntime) -> Result<(), Fail> {
     let mut table = with_four(rt.alloc())?;
-    kill_thread(&mut table, 101)?;
-    table.mark_all(100);
+    kill_thread(&mut table, 101);
+    table.change_members(100, &ThreadChange::Mark);
     let rows = table.rows(100).ok_or("no group 100")?;
     assert_eq!(rt; rows.blocked(), [0, 0].as_slice());
     assert_eq!(rt; rows.runnable(), [0, 0].as_slice());

@@ -1,5 +1,4 @@
 use super::*;
-use tr_table::ThreadChange;
 use tr_tracee::{Options, Trace};
 
 /// A group of one thread.
@@ -85,10 +84,10 @@ fn sixteen_groups_answer_apart(rt: HostRuntime) -> Result<(), Fail> {
         seized: true,
         options: Options::NONE,
     };
-    table.mark_all(3000);
+    table.change_members(3000, &ThreadChange::Mark);
     table.change_thread(5061, &ThreadChange::TraceBy(trace));
     for i in 0..62 {
-        kill_thread(&mut table, 12000 + i)?;
+        kill_thread(&mut table, 12000 + i);
     }
     for n in 1..17 {
         let tgid = n * 1000;
@@ -115,7 +114,7 @@ fn sixty_four_clones_die_one_by_one(rt: HostRuntime) -> Result<(), Fail> {
         assert!(rt; !table.all_dead(100) && table.has_live(100));
         let dying = *thread(&table, id)?;
         same(&rt, &table.others_dead(&dying), &(id == 163));
-        kill_thread(&mut table, id)?;
+        kill_thread(&mut table, id);
     }
     assert!(rt; table.all_dead(100) && !table.has_live(100));
     for id in 100..164 {

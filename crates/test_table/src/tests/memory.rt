@@ -41,7 +41,11 @@ fn add_twenty(rt: &impl Abort, table: &mut Table) -> Result<(), Fail> {
         child.id = id;
         add(rt, table, &child)?;
     }
-    same(rt, &(table.count(100), table.thread_count()), &(22, 23));
+    same(
+        rt,
+        &(table.member_count(100), table.thread_count()),
+        &(22, 23),
+    );
     Ok(())
 }
 

@@ -6,10 +6,13 @@ fn an_added_thread_comes_last(rt: HostRuntime) -> Result<(), Fail> {
     let mut child = *thread(&table, 101)?;
     child.id = 102;
     add_new(&mut table, &child)?;
-    same(&rt, &(table.count(100), table.thread_count()), &(3, 4));
-    if table.count(100) > 2 {
-        same(&rt, &table.at(100, 2).id, &102);
-    }
+    same(
+        &rt,
+        &(table.member_count(100), table.thread_count()),
+        &(3, 4),
+    );
+    same(&rt, &table.member(100, 2).map(|t| t.id), &Some(102));
+    assert!(rt; table.member(100, 3).is_none());
     Ok(())
 }
 
@@ -29,7 +32,7 @@ fn the_dead_alone_are_removed(rt: HostRuntime) -> Result<(), Fail> {
     let mut table = opened(rt.alloc())?;
     table.remove_dead(101);
     same(&rt, &table.thread_count(), &3);
-    kill_thread(&mut table, 101)?;
+    kill_thread(&mut table, 101);
     table.remove_dead(101);
     same(&rt, &table.thread_count(), &2);
     assert!(rt; table.find(101).is_none());
@@ -51,10 +54,11 @@ fn a_group_goes_with_its_last_thread(rt: HostRuntime) -> Result<(), Fail> {
 #[test]
 fn a_renamed_thread_brings_its_queue(rt: HostRuntime) -> Result<(), Fail> {
     let mut table = with_four(rt.alloc())?;
-    kill_thread(&mut table, 100)?;
-    table.rename(101);
+    kill_thread(&mut table, 100);
+    table.change_thread(101, &ThreadChange::BeginExec);
+    same(&rt, &table.take_place(101), &Some(100));
     assert!(rt; table.find(101).is_none());
-    same(&rt, &table.count(100), &1);
+    same(&rt, &table.member_count(100), &1);
     blocks_all(&rt, &table, 100)?;
     same(
         &rt,

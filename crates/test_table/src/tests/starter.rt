@@ -1,7 +1,7 @@
 use super::many_threads::sixteen;
 use super::*;
-use tr_table::{GroupChange, ThreadChange};
-use tr_tracee::{Options, Trace};
+use tr_table::GroupChange;
+use tr_tracee::{Options, Stop, Trace};
 use tr_wait::{Status, Which};
 
 // What a table keeps for waits of the starter: whether some group has a note, and whether some death is untraced.
@@ -68,7 +68,11 @@ fn raise_report(table: &mut Table, id: u32) -> Result<(), Fail> {
     if table.raised() > 100 {
         Err("more reports than the tests raise")?;
     }
-    table.report(id, &Status::Exited(0));
+    if thread(table, id)?.life.is_dead() {
+        let _raised = table.report_death(id, &End::Exited(0));
+    } else {
+        let _raised = table.enter(id, &Stop::Exit(0));
+    }
     Ok(())
 }
 
@@ -79,7 +83,7 @@ fn has_deaths(rt: &impl Abort, table: &Table, want: bool) {
 /// A death without a report isn't one, nor a report of a living thread.
 fn deaths_have_reports(rt: &impl Abort, table: &mut Table) -> Result<(), Fail> {
     raise_report(table, 2000)?;
-    kill_thread(table, 3000)?;
+    kill_thread(table, 3000);
     has_deaths(rt, table, false);
     raise_report(table, 3000)?;
     raise_report(table, 3000)?;
@@ -97,7 +101,7 @@ fn deaths_are_untraced(rt: &impl Abort, table: &mut Table) -> Result<(), Fail> {
         options: Options::NONE,
     };
     table.change_thread(4000, &ThreadChange::TraceBy(trace));
-    kill_thread(table, 4000)?;
+    kill_thread(table, 4000);
     raise_report(table, 4000)?;
     has_deaths(rt, table, false);
     table.change_thread(4000, &ThreadChange::Release);

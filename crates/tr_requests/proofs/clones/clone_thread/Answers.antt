@@ -8,7 +8,7 @@ use Rattle.tr_model.specs.Clones.{clone, clone_stop}
 use Rattle.tr_model.specs.GroupStops.{complete_group_stops}
 use Rattle.tr_model.specs.Moves.{added, begin, on_thread, when}
 use Rattle.tr_model.specs.Tables.{stop_in_effect, thread_of}
-use Rattle.tr_steps.proofs.Put.{found_again}
+use Rattle.tr_model.proofs.Kept.{itself}
 use Rattle.tr_requests.proofs.Cloning.{is_clone, no_thread, spawns}
 use Rattle.tr_requests.proofs.clones.clone_thread.Goals as goal
 
@@ -28,7 +28,7 @@ returns-clause-did c =
     let s : d.thread ≡ t = same_Some d.thread t (sym d.there ∙ e) in
     let free : is_free t.life ≡ true = ap (λ x. is_free x.life) (sym s) ∙ d.free in
     let m : c.is_some-stop_mark.result ≡ is_some (stop_in_effect T t.group) = c.is_some-stop_mark.ensures ∙ ap is_some c.stop_now.ensures in
-    let p = spawns T c.args.tid id (is_some (stop_in_effect T t.group)) t e (found_again T c.args.tid t e) free in
+    let p = spawns T c.args.tid id (is_some (stop_in_effect T t.group)) t e (itself T.threads c.args.tid t e) free in
     let added_now = c.in_ok-add.ensures.ok.work ∙ ap (added c.child.result) c.in_ok-begin.ensures.work ∙ ap (λ x. added x (begin T)) (c.child.ensures ∙ ap (λ b. child id b t) m) ∙ sym p in
     let stopped = c.clone_stop_where.ensures.work ∙ ap (when (options_of t.trace).clone (clone_stop t id)) added_now in
     record {

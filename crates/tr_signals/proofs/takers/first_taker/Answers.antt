@@ -2,8 +2,7 @@ use Rattle.std.proofs.Common.{◌≡◌, ◌∙◌, sym}
 use Rattle.std.specs.List.{position}
 use Rattle.tr_model.specs.Tables.{members}
 use Rattle.tr_model.specs.Takes.{can_take}
-use Rattle.tr_table.proofs.Rosters.{counted}
-use Rattle.tr_signals.proofs.Ready.{found_at, found_none, member_at, rows_of, scanned}
+use Rattle.tr_signals.proofs.Ready.{found_at, found_none, rows_of, scanned}
 use Rattle.tr_signals.proofs.takers.first_taker.Goals as goal
 
 pub first_ready-requires-clause-as_many_blocked : goal.first_ready-requires-clause-as_many_blocked
@@ -20,18 +19,9 @@ returns-in_err-place c =
     let e : c.first_ready.result ≡ position (can_take T) (members T g) = rw (c.first_ready.ensures, c.own.ensures, c.blocked.ensures, c.shared.ensures, c.runnable.ensures) (scanned T g rows c.requires.rows) in
     c.from_residual.ensures ∙ sym (found_none (can_take T) (members T g) (sym e ∙ c.in_err-place.was))
 
-pub at-requires : goal.at-requires
-at-requires c =
-    let T = c.args.table.now.table in
-    let g = c.args.tgid in
-    let rows = c.args.rows.now in
-    let e : c.first_ready.result ≡ position (can_take T) (members T g) = rw (c.first_ready.ensures, c.own.ensures, c.blocked.ensures, c.shared.ensures, c.runnable.ensures) (scanned T g rows c.requires.rows) in
-    rw (counted g T.threads) (found_at (can_take T) (members T g) c.in_ok-place.place (sym e ∙ c.in_ok-place.was)).0
-
 pub returns : goal.returns
 returns c =
     let T = c.args.table.now.table in
     let g = c.args.tgid in
-    let rows = c.args.rows.now in
-    let e : c.first_ready.result ≡ position (can_take T) (members T g) = rw (c.first_ready.ensures, c.own.ensures, c.blocked.ensures, c.shared.ensures, c.runnable.ensures) (scanned T g rows c.requires.rows) in
-    c.at.ensures ∙ (member_at g c.in_ok-place.place T.threads ∙ sym (found_at (can_take T) (members T g) c.in_ok-place.place (sym e ∙ c.in_ok-place.was)).1)
+    let e : c.first_ready.result ≡ position (can_take T) (members T g) = rw (c.first_ready.ensures, c.own.ensures, c.blocked.ensures, c.shared.ensures, c.runnable.ensures) (scanned T g c.args.rows.now c.requires.rows) in
+    c.copied.ensures ∙ (c.member.ensures ∙ sym (found_at (can_take T) (members T g) c.in_ok-place.place (sym e ∙ c.in_ok-place.was)).1)

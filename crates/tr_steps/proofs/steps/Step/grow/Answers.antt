@@ -1,6 +1,6 @@
 use Rattle.std.proofs.Common.{◌≡◌, ◌∙◌, ap, arith, length}
 use Rattle.tr_table.specs.Held.{held_count}
-use Rattle.tr_steps.proofs.Helds.{helds_few}
+use Rattle.tr_table.proofs.Helds.{few_of_all}
 use Rattle.tr_steps.proofs.steps.Step.grow.Goals as goal
 
 pub invariant_of-self-2 : goal.invariant_of-self-2
@@ -14,7 +14,7 @@ invariant_of-self-2 c p =
     let b = c.saturating_add-can_end.ensures in
     let d = c.queued.ensures in
     let e = c.thread_count.ensures in
-    let f = helds_few was.table.table.threads in
+    let f = few_of_all was.table.table.threads in
     let z : length was.ended.items ≡ 0 = ap (λ x. length x.work.ended) v ∙ ap (λ x. length x.work.ended) c.requires.empty in
     let t = c.in_ok-reserve-6.ensures.table in
     let q : length c.reserve-6.new.self.table.waiting ≡ length was.table.table.waiting = ap (λ T. length T.waiting) t in

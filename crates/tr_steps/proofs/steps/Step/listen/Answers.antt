@@ -1,4 +1,4 @@
-use Rattle.std.proofs.Common.{◌≡◌, ◌∙◌, Some, ap, arith, length, refl}
+use Rattle.std.proofs.Common.{◌≡◌, ◌∙◌, Some, ap, arith, length, refl, sym}
 use Rattle.std.proofs.lemmas.List.{append-nil}
 use Rattle.tr_tracee.specs.declared.thread.Thread.{Thread}
 use Rattle.tr_tracee.specs.Stops.{listening}
@@ -6,7 +6,8 @@ use Rattle.tr_model.specs.declared.fates.Fate.TheVariants.{Flushed}
 use Rattle.tr_model.specs.Moves.{changed}
 use Rattle.tr_model.specs.Tables.{thread_of}
 use Rattle.tr_table.specs.Held.{held_count}
-use Rattle.tr_steps.proofs.Put.{changed_put, ends_listening, helds_listening}
+use Rattle.tr_table.specs.View.{View}
+use Rattle.tr_steps.proofs.Put.{ends_listening, helds_listening}
 use Rattle.tr_steps.proofs.steps.Step.listen.Goals as goal
 
 pub invariant_of-self : goal.invariant_of-self
@@ -14,11 +15,9 @@ invariant_of-self c p =
     let was = c.self.inside.table.table in
     let t = c.args.thread.now in
     let there : thread_of was t.id ≡ Some t = ap (λ x. thread_of x.work.table t.id) c.self.view_is ∙ c.requires.there in
-    let m : changed t.id (λ (_ : Thread). listening t) was.threads ≡ changed t.id listening was.threads = changed_put t.id listening was.threads t there in
-    let a = c.put_thread.ensures in
-    let b = (rw (c.listen.ensures, m) at a) in
-    let x : held_count c.put_thread.new.self.table.threads ≡ held_count was.threads = ap (λ v. held_count v.table.threads) b ∙ helds_listening was.threads t there in
-    let y : length c.put_thread.new.self.table.waiting ≡ length was.waiting = ap (λ v. length v.table.waiting) b in
+    let b = (rw c.change_thread.ensures.only at c.change_thread.ensures.table) in
+    let x : held_count c.change_thread.new.self.table.threads ≡ held_count was.threads = ap (λ (v : View). held_count v.table.threads) b ∙ helds_listening was.threads t there in
+    let y : length c.change_thread.new.self.table.waiting ≡ length was.waiting = ap (λ (v : View). length v.table.waiting) b in
     let o = c.self.invariant p in
     let e = o.ended in
     record {
@@ -27,19 +26,15 @@ invariant_of-self c p =
       dying = o.dying;
       killed = o.killed;
       renamed = o.renamed;
-      waiting = rw (ap (λ v. v.room) b) o.waiting;
-      accepted = rw (ap (λ v. v.table.accepted) b) o.accepted;
-      raised = rw (ap (λ v. v.table.raised) b) o.raised;
+      waiting = rw (ap (λ (v : View). v.room) b) o.waiting;
+      accepted = rw (ap (λ (v : View). v.table.accepted) b) o.accepted;
+      raised = rw (ap (λ (v : View). v.table.raised) b) o.raised;
     }
 
 pub returns : goal.returns
 returns c =
-    let was = c.self.inside.table.table in
     let t = c.args.thread.now in
-    let there : thread_of was t.id ≡ Some t = ap (λ x. thread_of x.work.table t.id) c.self.view_is ∙ c.requires.there in
-    let m : changed t.id (λ (_ : Thread). listening t) was.threads ≡ changed t.id listening was.threads = changed_put t.id listening was.threads t there in
-    let a = c.put_thread.ensures in
-    let b = (rw (c.listen.ensures, m) at a) in
+    let b = (rw c.change_thread.ensures.only at c.change_thread.ensures.table) in
     let q : c.self.inside.room ≡ c.args.self.now.room = ap (λ x. x.room) c.self.view_is in
     record {
       work = rw (← c.self.view_is, b, ends_listening Flushed t, append-nil c.self.inside.ended.items) refl;

@@ -18,7 +18,7 @@ returns-then-is_some-clause-kept c ts kept =
     let t = c.args.thread.now in
     let v : TracingView = record { tracers = i.tracers; waiters = i.waiters; reporting = i.reporting.items; places = vec_capacity i.reporting; untraced_deaths = i.untraced_deaths } in
     let h : IsTracing ts v = subst (IsTracing ts) (sym c.self.view_is) kept in
-    let p : Recounts v.tracers c.recount.new.self None (tracer t) = rw (sym c.tracer_of.ensures) (record { counted = c.recount.ensures.counted; sized = c.recount.ensures.sized }) in
+    let p : Recounts v.tracers c.recount.new.self None (tracer t) = rw (sym c.tracer.ensures) (record { counted = c.recount.ensures.counted; sized = c.recount.ensures.sized }) in
     let q : Recounts v.waiters c.recount-2.new.self None (waiter t) = rw (sym c.waiter_of-waiter.ensures) (record { counted = c.recount-2.ensures.counted; sized = c.recount-2.ensures.sized }) in
     let told : c.is_some.result ≡ is_some (waiter t) = c.is_some.ensures ∙ ap is_some c.waiter_of-waiter.ensures in
     let w : TracingView = record { tracers = c.recount.new.self; waiters = c.recount-2.new.self; reporting = c.push_reserved.new.self.items; places = vec_capacity c.push_reserved.new.self; untraced_deaths = c.recounted-self-inside.result } in
@@ -32,7 +32,7 @@ returns-else-is_some-clause-kept c ts kept =
     let t = c.args.thread.now in
     let v : TracingView = record { tracers = i.tracers; waiters = i.waiters; reporting = i.reporting.items; places = vec_capacity i.reporting; untraced_deaths = i.untraced_deaths } in
     let h : IsTracing ts v = subst (IsTracing ts) (sym c.self.view_is) kept in
-    let p : Recounts v.tracers c.recount.new.self None (tracer t) = rw (sym c.tracer_of.ensures) (record { counted = c.recount.ensures.counted; sized = c.recount.ensures.sized }) in
+    let p : Recounts v.tracers c.recount.new.self None (tracer t) = rw (sym c.tracer.ensures) (record { counted = c.recount.ensures.counted; sized = c.recount.ensures.sized }) in
     let q : Recounts v.waiters c.recount-2.new.self None (waiter t) = rw (sym c.waiter_of-waiter.ensures) (record { counted = c.recount-2.ensures.counted; sized = c.recount-2.ensures.sized }) in
     let told : c.is_some.result ≡ is_some (waiter t) = c.is_some.ensures ∙ ap is_some c.waiter_of-waiter.ensures in
     let w : TracingView = record { tracers = c.recount.new.self; waiters = c.recount-2.new.self; reporting = i.reporting.items; places = vec_capacity i.reporting; untraced_deaths = c.recounted-self-inside.result } in

@@ -43,7 +43,7 @@ recount-requires-clause-counted c =
     let h : IsTracing ts v = subst (IsTracing ts) (sym c.self.view_is) c.requires.kept in
     let room : HasPlaces (length ts) v = subst (HasPlaces (length ts)) (sym c.self.view_is) c.requires.room in
     let x = c.index-threads-place.result in
-    (may_trace ts c.args.index.now v h room c.requires.indexed c.requires.once c.args.place x c.requires.place c.index-threads-place.is c.args.thread.now c.tracer_of.result c.tracer_of-2.result c.tracer_of.ensures c.tracer_of-2.ensures).counted
+    (may_trace ts c.args.index.now v h room c.requires.indexed c.requires.once c.args.place x c.requires.place c.index-threads-place.is c.args.thread.now c.tracer.result c.tracer-2.result c.tracer.ensures c.tracer-2.ensures).counted
 
 pub recount-requires-clause-room : goal.recount-requires-clause-room
 recount-requires-clause-room c =
@@ -53,7 +53,7 @@ recount-requires-clause-room c =
     let h : IsTracing ts v = subst (IsTracing ts) (sym c.self.view_is) c.requires.kept in
     let room : HasPlaces (length ts) v = subst (HasPlaces (length ts)) (sym c.self.view_is) c.requires.room in
     let x = c.index-threads-place.result in
-    (may_trace ts c.args.index.now v h room c.requires.indexed c.requires.once c.args.place x c.requires.place c.index-threads-place.is c.args.thread.now c.tracer_of.result c.tracer_of-2.result c.tracer_of.ensures c.tracer_of-2.ensures).room
+    (may_trace ts c.args.index.now v h room c.requires.indexed c.requires.once c.args.place x c.requires.place c.index-threads-place.is c.args.thread.now c.tracer.result c.tracer-2.result c.tracer.ensures c.tracer-2.ensures).room
 
 pub recount-requires-2-clause-counted : goal.recount-requires-2-clause-counted
 recount-requires-2-clause-counted c =
@@ -104,7 +104,7 @@ returns-clause-kept c =
     let room : HasPlaces (length ts) v = subst (HasPlaces (length ts)) (sym c.self.view_is) c.requires.room in
     let x = c.index-threads-place.result in
     let w : TracingView = record { tracers = c.recount.new.self; waiters = c.recount-2.new.self; reporting = c.relist.new.ids.items; places = vec_capacity c.relist.new.ids; untraced_deaths = c.recounted-self-inside.result } in
-    let p : Recounts v.tracers w.tracers (tracer x) (tracer c.args.thread.now) = rw (sym c.tracer_of.ensures, sym c.tracer_of-2.ensures) (record { counted = c.recount.ensures.counted; sized = c.recount.ensures.sized }) in
+    let p : Recounts v.tracers w.tracers (tracer x) (tracer c.args.thread.now) = rw (sym c.tracer.ensures, sym c.tracer-2.ensures) (record { counted = c.recount.ensures.counted; sized = c.recount.ensures.sized }) in
     let q : Recounts v.waiters w.waiters c.waiter_of-was.result c.waiter_of-is.result = record { counted = c.recount-2.ensures.counted; sized = c.recount-2.ensures.sized } in
     let r : w.reporting ≡ relisted (is_some c.waiter_of-was.result) (is_some c.waiter_of-is.result) (length (filter (is_before c.args.index.now c.args.place) v.reporting)) c.args.thread.now.id v.reporting = c.relist.ensures.items ∙ (λ j. relisted (c.is_some.ensures j) (c.is_some-2.ensures j) (length (filter (is_before c.args.index.now c.args.place) v.reporting)) c.args.thread.now.id v.reporting) in
     let n : w.untraced_deaths + bool_to_nat (is_untraced_death x) ≡ v.untraced_deaths + bool_to_nat (is_untraced_death c.args.thread.now) = omega (arith, c.recounted-self-inside.ensures, ap bool_to_nat c.is_untraced_death.ensures, ap bool_to_nat c.is_untraced_death-2.ensures) in

@@ -1,2 +1,0 @@
-pub mod MembersKept
-pub mod Places
