@@ -1,0 +1,5 @@
+pub mod Calls
+pub mod Cells
+pub mod Elements
+pub mod Lives
+pub mod Styles
