@@ -1,2 +1,3 @@
 pub mod Celled
+pub mod Marked
 pub mod Printed

@@ -4,7 +4,7 @@ use Rattle.std.specs.Str.{bytes_eq}
 use Rattle.std.proofs.lemmas.Slice.Eq.{bytes_eq-Decides}
 use Rattle.tr_status.specs.Texts.{texts}
 use Rattle.tr_picture.specs.declared.styles.Style.{Style}
-use Rattle.tr_picture.specs.Elements.{Attribute, Characters, Close, Elements, Open, Token, after_close, after_token, all, both, escaped, none, pieces, printed, reads, tag, text, token_pieces, tokens, words, words_begin}
+use Rattle.tr_picture.specs.Elements.{AreBalanced, Attribute, Characters, Close, Elements, Open, Token, after_close, after_token, all, both, escaped, none, pieces, printed, reads, tag, text, token_pieces, tokens, words, words_begin}
 
 -- Texts
 
@@ -51,6 +51,20 @@ pushed_words old first second new s x y t h1 h2 h3 =
     ∙ ap (λ p. old ++ (texts begin ++ p)) (sym (texts_append inside end_pieces))
     ∙ ap (λ p. old ++ p) (sym (texts_append begin (inside ++ end_pieces)))
 
+pub pushed_tag : (old first second new : List ℕ) (n : List ℕ) (attrs : List Attribute) (inside : Elements) → first ≡ old ++ texts (token_pieces (Open n attrs)) → second ≡ first ++ printed inside →
+    new ≡ second ++ texts (token_pieces (Close n)) → new ≡ old ++ printed (tag n attrs inside none)
+pushed_tag old first second new n attrs inside h1 h2 h3 =
+    let begin : List (List ℕ) = token_pieces (Open n attrs) in
+    let end : List (List ℕ) = token_pieces (Close n) in
+    let middle : List (List ℕ) = pieces (tokens inside) in
+    h3
+    ∙ ap (λ p. p ++ texts end) (h2 ∙ ap (λ p. p ++ texts middle) h1)
+    ∙ append_assoc (old ++ texts begin) (texts middle) (texts end)
+    ∙ append_assoc old (texts begin) (texts middle ++ texts end)
+    ∙ ap (λ p. old ++ (texts begin ++ p)) (sym (texts_append middle end))
+    ∙ ap (λ p. old ++ p) (sym (texts_append begin (middle ++ end)))
+    ∙ ap (λ ps. old ++ texts (begin ++ ps)) (sym (pieces_append (tokens inside) (Close n ∷ [])))
+
 -- Balance
 
 same_name : (n : List ℕ) → bytes_eq n n ≡ true
@@ -64,3 +78,6 @@ balanced (tag n attrs inside more) rest names =
     ap (λ ts. reads ts (Some (n ∷ names))) (append_assoc (tokens inside) (Close n ∷ tokens more) rest)
     ∙ (balanced inside (Close n ∷ (tokens more ++ rest)) (n ∷ names)
     ∙ (ap (λ (b : Bool). reads (tokens more ++ rest) (if b then Some names else None)) (same_name n) ∙ balanced more rest names))
+
+pub are_balanced : AreBalanced
+are_balanced es names = ap (λ ts. reads ts (Some names)) (sym (append-nil (tokens es))) ∙ balanced es [] names

@@ -1,5 +1,5 @@
 -- Elements of a picture, and their text. Nothing else writes a bracket, a quote or an escape.
-use Rattle.std.specs.Prelude.{ℕ, List, [], ◌∷◌, ◌++◌, ◌==◌, if◌then◌else◌, Option, Some, None, codes, decimal, map, option_and_then}
+use Rattle.std.specs.Prelude.{◌≡◌, ℕ, List, [], ◌∷◌, ◌++◌, ◌==◌, if◌then◌else◌, Option, Some, None, codes, decimal, map, option_and_then}
 use Rattle.std.specs.Str.{bytes_eq}
 use Rattle.tr_status.specs.Texts.{texts}
 use Rattle.tr_picture.specs.declared.styles.Style.{Style}
@@ -97,6 +97,10 @@ after_token (Characters t) names = Some names
 abbrev pub reads : List Token → Option (List (List ℕ)) → Option (List (List ℕ))
 reads [] open_names = open_names
 reads (t ∷ ts) open_names = reads ts (option_and_then (after_token t) open_names)
+
+-- whatever elements are read, each tag in them is closed where it was opened, and no other is closed
+abbrev pub AreBalanced : Type 0
+AreBalanced = (es : Elements) (names : List (List ℕ)) → reads (tokens es) (Some names) ≡ Some names
 
 -- Shapes
 

@@ -3,18 +3,18 @@ ghost use Rattle.tr_workers.specs.Follows.{heard};
 ghost use Rattle.tr_scenario.specs.Kinds.{event_name};
 ghost use Rattle.tr_scenario.specs.RunTexts.{call_of};
 ghost use Rattle.tr_picture.specs.declared.styles.Style.TheVariants.{Ink};
-ghost use Rattle.tr_picture.specs.Calls.{aim, aim_of, arrow, arrow_style, call_words, chip_place, id_of, is_own, refusal_cross, signal_of};
+ghost use Rattle.tr_picture.specs.Calls.{aim, aim_of, arrow, arrow_style, call_words, chip, chip_place, chip_words, id_of, is_own, marks, refusal_cross, signal_of};
 ghost use Rattle.tr_picture.specs.Elements.{printed, words};
 ghost use Rattle.tr_picture.specs.Lives.{signal_name};
 
-use crate::elements::{push_cross, push_line, push_words};
+use crate::elements::{push_cross, push_line, push_rect, push_words};
 use crate::lives::signal_name;
 use crate::styles::Style;
 use itoa::Buffer;
 use std::alloc::AllocError;
 use tr_kernel::Answer;
 use tr_model::{Event, Reply, Target};
-use tr_scenario::{Page, event_name};
+use tr_scenario::{Page, event_name, refusal_text};
 
 /// Gives the thread or the group that an event names.
 fn aim(event: &Event) -> Option<Target>
@@ -250,8 +250,10 @@ fn push_refusal(page: &mut Page, answer: &Answer, lane: Option<u64>) -> Result<(
 }
 
 fn chip_place(is_own: bool, actor: Option<u64>, lane: Option<u64>) -> Option<u64>
-    requires { IfSome lane (λ x. x < 2 ^ 32) }
-    ensures { result ≡ chip_place is_own actor lane }
+    requires actor { IfSome actor (λ x. x < 2 ^ 32) }
+    requires lane { IfSome lane (λ x. x < 2 ^ 32) }
+    ensures place { result ≡ chip_place is_own actor lane }
+    ensures small { IfSome result (λ x. x < 2 ^ 33) }
 {
     if !is_own {
         return actor;
@@ -260,4 +262,74 @@ fn chip_place(is_own: bool, actor: Option<u64>, lane: Option<u64>) -> Option<u64
         Some(x) => Some(x + 142),
         None => actor,
     }
+}
+
+/// Appends the words of a chip: what a call is, or why it was refused.
+fn push_chip_words(
+    page: &mut Page,
+    style: Style,
+    x: u64,
+    event: &Event,
+    answer: &Answer,
+) -> Result<(), AllocError>
+    ensures { OnOk result (page.new
+        ≡ page.old ++ printed (words style x 14 (chip_words event.now (heard answer.now)))) }
+{
+    if let Answer::Refused(why) = answer {
+        let pieces: [&[u8]; 1] = [refusal_text(*why).as_bytes()];
+        return push_words(page, style, x, 14, &pieces);
+    }
+    match signal_of(event) {
+        Some(sig) => {
+            let pieces: [&[u8]; 3] = [
+                event_name(event).as_bytes(),
+                b" ",
+                signal_name(sig).as_bytes(),
+            ];
+            push_words(page, style, x, 14, &pieces)
+        }
+        None => {
+            let pieces: [&[u8]; 1] = [event_name(event).as_bytes()];
+            push_words(page, style, x, 14, &pieces)
+        }
+    }
+}
+
+/// Appends the chip of a call, where it has a place.
+fn push_chip(
+    page: &mut Page,
+    place: Option<u64>,
+    event: &Event,
+    answer: &Answer,
+) -> Result<(), AllocError>
+    requires { IfSome place (λ x. x < 2 ^ 33) }
+    ensures { OnOk result (page.new
+        ≡ page.old ++ printed (chip (arrow_style event.now (heard answer.now)) place
+        (chip_words event.now (heard answer.now)))) }
+{
+    let Some(x) = place else {
+        return Ok(());
+    };
+    push_rect(page, Style::Chip, x, 2, 88, 16)?;
+    push_chip_words(page, arrow_style(event, answer), x + 4, event, answer)?;
+    Ok(())
+}
+
+/// Appends the marks of a call: its arrow, a cross where it was refused, and its chip.
+pub(crate) fn push_marks(
+    page: &mut Page,
+    event: &Event,
+    answer: &Answer,
+    actor: Option<u64>,
+    lane: Option<u64>,
+) -> Result<(), AllocError>
+    requires actor { IfSome actor (λ x. x < 2 ^ 32) }
+    requires lane { IfSome lane (λ x. x < 2 ^ 32) }
+    ensures { OnOk result (page.new
+        ≡ page.old ++ printed (marks event.now (heard answer.now) actor lane)) }
+{
+    push_arrow(page, arrow_style(event, answer), actor, lane)?;
+    push_refusal(page, answer, lane)?;
+    push_chip(page, chip_place(is_own(event), actor, lane), event, answer)?;
+    Ok(())
 }

@@ -1,6 +1,6 @@
 ghost use Rattle.std.specs.Prelude.{◌≡◌, ◌++◌, OnOk, map};
 ghost use Rattle.tr_status.specs.Texts.{texts};
-ghost use Rattle.tr_picture.specs.Elements.{cross, escape_of, escaped, line, printed, rect, words, words_begin};
+ghost use Rattle.tr_picture.specs.Elements.{AreBalanced, cross, escape_of, escaped, line, printed, rect, words, words_begin};
 
 use crate::styles::Style;
 use itoa::Buffer;
@@ -154,3 +154,8 @@ pub(crate) fn push_cross(page: &mut Page, style: Style, x: u64) -> Result<(), Al
 {
     push_words(page, style, x, 14, &[b"x"])
 }
+
+/// Each tag of a picture is closed where it was opened.
+pub fn tags_are_balanced()
+    ensures { AreBalanced }
+{}

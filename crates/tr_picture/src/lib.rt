@@ -7,4 +7,5 @@ mod elements;
 mod lives;
 mod styles;
 
+pub use elements::tags_are_balanced;
 pub use styles::Style;

@@ -1,0 +1,68 @@
+-- The row of a call: its words, the marks at its event line, and what holds after it.
+use Rattle.std.specs.Prelude.{ℕ, ◌+◌, ◌*◌, List, [], ◌∷◌, Bool, true, false, nat_lt, if◌then◌else◌, codes, decimal, length}
+use Rattle.tr_model.specs.Runs.{Answer, Call, Entered, Read, Refused, State, call}
+use Rattle.tr_model.specs.Tables.{Table}
+use Rattle.tr_scenario.specs.Replies.{refusal_text, reply_text}
+use Rattle.tr_scenario.specs.RunTexts.{call_text, state_after}
+use Rattle.tr_picture.specs.declared.styles.Style.TheVariants as style
+use Rattle.tr_picture.specs.Calls.{aim_of, call_words, marks}
+use Rattle.tr_picture.specs.Cells.{cells}
+use Rattle.tr_picture.specs.Elements.{Attribute, Down, Elements, all, both, none, tag, text, words}
+use Rattle.tr_picture.specs.Layouts.{Layout, actor_place, aimed_place, lanes_left}
+
+-- the place of its entry in a journal of n entries
+abbrev pub position_words : ℕ → Answer → List ℕ
+position_words n (Entered r) = decimal n
+position_words n (Read r) = codes "."
+position_words n (Refused why) = codes "!"
+
+abbrev pub answer_words : Answer → List ℕ
+answer_words (Entered r) = reply_text r
+answer_words (Read r) = reply_text r
+answer_words (Refused why) = refusal_text why
+
+-- the first and the last of the reports that it raised, if it raised some
+abbrev pub raised_cell : ℕ → ℕ → Elements
+raised_cell old new = if nat_lt old new then words style.Report 312 30 (codes "raises " ∷ decimal (old + 1) ∷ codes " to " ∷ decimal new ∷ []) else none
+
+-- whether it made an entry
+abbrev pub is_entry : Answer → Bool
+is_entry (Entered r) = true
+is_entry (Read r) = false
+is_entry (Refused why) = false
+
+abbrev pub title : List ℕ → Elements
+title line = tag (codes "title") [] (text (line ∷ []) none) none
+
+abbrev pub moved_down : ℕ → List Attribute
+moved_down y = record { name = codes "transform"; value = Down y } ∷ []
+
+-- the words of a call; so many entries and reports there are after it, and so many reports there were before
+abbrev pub row_words : ℕ → ℕ → ℕ → Call → Answer → Elements
+row_words n raised raised_after c x = all (
+    words style.Dim 16 14 (position_words n x ∷ []) ∷
+    words style.Ink 64 14 (call_words c) ∷
+    words style.Ink 312 14 (answer_words x ∷ []) ∷
+    raised_cell raised raised_after ∷ [])
+
+-- what is in the row of a call with this line of text, which led to this table
+abbrev pub row_inside : Layout → List ℕ → ℕ → ℕ → Table → Call → Answer → Elements
+row_inside L line n raised T c x = all (
+    title line ∷
+    cells (is_entry x) (lanes_left L) T L.lanes ∷
+    row_words n raised T.raised c x ∷
+    marks c.event x (actor_place 640 L.actors c.actor) (aimed_place (lanes_left L) L.lanes (aim_of c.event x)) ∷ [])
+
+-- with this answer, below i rows
+abbrev pub row_of : Layout → ℕ → State → State → Call → List Answer → Elements
+row_of L i s after c [] = none
+row_of L i s after c (x ∷ xs) = tag (codes "g") (moved_down (136 + 34 * i)) (row_inside L (call_text s c) (length after.journal) s.table.raised after.table c x) none
+
+-- the row of a call at a run so far, below i rows
+unfoldable pub row : Layout → ℕ → State → Call → Elements
+row L i s c = row_of L i s (state_after s (c ∷ [])) c (call s c).answers
+
+-- of each call its row
+abbrev pub rows : Layout → ℕ → State → List Call → Elements
+rows L i s [] = none
+rows L i s (c ∷ cs) = both (row L i s c) (rows L (i + 1) (state_after s (c ∷ [])) cs)
