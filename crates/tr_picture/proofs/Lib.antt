@@ -1,3 +1,4 @@
 pub mod Celled
 pub mod Marked
 pub mod Printed
+pub mod Rowed

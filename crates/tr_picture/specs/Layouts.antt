@@ -1,12 +1,8 @@
 -- Where the lanes of actors, threads and groups are.
-use Rattle.std.specs.Prelude.{ℕ, ◌+◌, ◌*◌, ◌==◌, List, [], ◌∷◌, if◌then◌else◌, length, Option, Some, None}
+use Rattle.std.specs.Prelude.{ℕ, ◌≤◌, ◌+◌, ◌*◌, ◌==◌, List, [], ◌∷◌, if◌then◌else◌, length, Option, Some, None}
 use Rattle.tr_model.specs.declared.rows.Target.{Target}
 use Rattle.tr_model.specs.Tables.{same_target}
-
--- who has a lane, in their order
-pub record Layout : Type 0 where
-  pub actors : List ℕ
-  pub lanes : List Target
+use Rattle.tr_picture.specs.declared.layouts.Layout.{Layout}
 
 -- where the lane of this actor begins, if it has one; the first of these lanes begins at x
 abbrev pub actor_place : ℕ → List ℕ → ℕ → Option ℕ
@@ -26,3 +22,8 @@ aimed_place x ls (Some t) = lane_place x ls t
 -- where the lanes of threads and groups begin
 abbrev pub lanes_left : Layout → ℕ
 lanes_left L = 654 + 92 * length L.actors
+
+-- few lanes of actors, and few of threads and groups
+pub record IsSmall (L : Layout) : Type 0 where
+  pub actors : length L.actors ≤ 8
+  pub lanes : length L.lanes ≤ 64

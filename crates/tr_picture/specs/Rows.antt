@@ -8,7 +8,8 @@ use Rattle.tr_picture.specs.declared.styles.Style.TheVariants as style
 use Rattle.tr_picture.specs.Calls.{aim_of, call_words, marks}
 use Rattle.tr_picture.specs.Cells.{cells}
 use Rattle.tr_picture.specs.Elements.{Attribute, Down, Elements, all, both, none, tag, text, words}
-use Rattle.tr_picture.specs.Layouts.{Layout, actor_place, aimed_place, lanes_left}
+use Rattle.tr_picture.specs.declared.layouts.Layout.{Layout}
+use Rattle.tr_picture.specs.Layouts.{actor_place, aimed_place, lanes_left}
 
 -- the place of its entry in a journal of n entries
 abbrev pub position_words : ℕ → Answer → List ℕ
@@ -53,10 +54,14 @@ row_inside L line n raised T c x = all (
     row_words n raised T.raised c x ∷
     marks c.event x (actor_place 640 L.actors c.actor) (aimed_place (lanes_left L) L.lanes (aim_of c.event x)) ∷ [])
 
--- with this answer, below i rows
+-- the same at its place, below i rows
+abbrev pub row_below : Layout → ℕ → List ℕ → ℕ → ℕ → Table → Call → Answer → Elements
+row_below L i line n raised T c x = tag (codes "g") (moved_down (136 + 34 * i)) (row_inside L line n raised T c x) none
+
+-- with the answer that there is
 abbrev pub row_of : Layout → ℕ → State → State → Call → List Answer → Elements
 row_of L i s after c [] = none
-row_of L i s after c (x ∷ xs) = tag (codes "g") (moved_down (136 + 34 * i)) (row_inside L (call_text s c) (length after.journal) s.table.raised after.table c x) none
+row_of L i s after c (x ∷ xs) = row_below L i (call_text s c) (length after.journal) s.table.raised after.table c x
 
 -- the row of a call at a run so far, below i rows
 unfoldable pub row : Layout → ℕ → State → Call → Elements

@@ -4,8 +4,11 @@
 mod calls;
 mod cells;
 mod elements;
+mod layouts;
 mod lives;
+mod rows;
 mod styles;
 
 pub use elements::tags_are_balanced;
+pub use layouts::Layout;
 pub use styles::Style;

@@ -1,0 +1,164 @@
+ghost use Rattle.std.specs.Prelude.{◌≡◌, ◌∷◌, ◌++◌, ◌<◌, ◌+◌, ◌*◌, ◌^◌, [], OnOk, codes, length};
+ghost use Rattle.tr_status.specs.Texts.{texts};
+ghost use Rattle.tr_workers.specs.Follows.{heard};
+ghost use Rattle.tr_scenario.specs.RunTexts.{call_of};
+ghost use Rattle.tr_picture.specs.declared.styles.Style.TheVariants.{Dim, Ink};
+ghost use Rattle.tr_picture.specs.Elements.{Open, printed, token_pieces, words};
+ghost use Rattle.tr_picture.specs.Layouts.{IsSmall};
+ghost use Rattle.tr_scenario.specs.Replies.{reply_text};
+ghost use Rattle.tr_picture.specs.Rows.{answer_words, is_entry, moved_down, position_words, raised_cell, row_inside, row_words, title};
+
+use crate::calls::{aim_of, push_call, push_marks};
+use crate::cells::push_cells;
+use crate::elements::{push_escaped, push_pieces, push_words};
+use crate::layouts::Layout;
+use crate::styles::Style;
+use itoa::Buffer;
+use std::alloc::AllocError;
+use tr_kernel::Answer;
+use tr_model::{Event, Reply};
+use tr_scenario::{LineBuffer, Page, prepend_reply, refusal_text};
+use tr_table::Table;
+
+/// Appends the place of a call's entry in a journal of so many entries.
+fn push_position(page: &mut Page, entries: usize, answer: &Answer) -> Result<(), AllocError>
+    ensures { OnOk result (page.new
+        ≡ page.old ++ printed (words Dim 16 14 (position_words entries (heard answer.now) ∷ []))) }
+{
+    let mut digits = Buffer::new();
+    match answer {
+        Answer::Entered(_) => {
+            let pieces: [&[u8]; 1] = [digits.format(entries).as_bytes()];
+            push_words(page, Style::Dim, 16, 14, &pieces)
+        }
+        Answer::Read(_) => push_words(page, Style::Dim, 16, 14, &[b"."]),
+        Answer::Refused(_) => push_words(page, Style::Dim, 16, 14, &[b"!"]),
+    }
+}
+
+/// Appends the text of a reply.
+fn push_reply(page: &mut Page, reply: &Reply) -> Result<(), AllocError>
+    ensures { OnOk result
+        (page.new ≡ page.old ++ printed (words Ink 312 14 (reply_text reply.now ∷ []))) }
+{
+    let mut line = LineBuffer::new();
+    prepend_reply(&mut line, reply);
+    let pieces: [&[u8]; 1] = [line.as_bytes()];
+    push_words(page, Style::Ink, 312, 14, &pieces)
+}
+
+/// Appends an answer.
+fn push_answer(page: &mut Page, answer: &Answer) -> Result<(), AllocError>
+    ensures { OnOk result (page.new
+        ≡ page.old ++ printed (words Ink 312 14 (answer_words (heard answer.now) ∷ []))) }
+{
+    match answer {
+        Answer::Entered(receipt) => push_reply(page, &receipt.reply),
+        Answer::Read(reply) => push_reply(page, reply),
+        Answer::Refused(why) => {
+            let pieces: [&[u8]; 1] = [refusal_text(*why).as_bytes()];
+            push_words(page, Style::Ink, 312, 14, &pieces)
+        }
+    }
+}
+
+/// Appends the first and the last of the reports that were raised, if some were.
+fn push_raised(page: &mut Page, before: u64, after: u64) -> Result<(), AllocError>
+    ensures { OnOk result (page.new ≡ page.old ++ printed (raised_cell before after)) }
+{
+    if before >= after {
+        return Ok(());
+    }
+    let mut first = Buffer::new();
+    let mut last = Buffer::new();
+    let pieces: [&[u8]; 4] = [
+        b"raises ",
+        first.format(before + 1).as_bytes(),
+        b" to ",
+        last.format(after).as_bytes(),
+    ];
+    push_words(page, Style::Report, 312, 30, &pieces)
+}
+
+/// Appends the words of a call, after which there are so many entries and reports.
+fn push_row_words(
+    page: &mut Page,
+    entries: usize,
+    raised: u64,
+    raised_after: u64,
+    actor: u32,
+    event: &Event,
+    answer: &Answer,
+) -> Result<(), AllocError>
+    ensures { OnOk result (page.new
+        ≡ page.old ++ printed (row_words entries raised raised_after (call_of actor event.now)
+        (heard answer.now))) }
+{
+    push_position(page, entries, answer)?;
+    push_call(page, actor, event)?;
+    push_answer(page, answer)?;
+    push_raised(page, raised, raised_after)?;
+    Ok(())
+}
+
+/// Appends a title.
+fn push_title(page: &mut Page, line: &[u8]) -> Result<(), AllocError>
+    ensures { OnOk result (page.new ≡ page.old ++ printed (title line.now)) }
+{
+    page.push(b"<title>")?;
+    push_escaped(page, line)?;
+    page.push(b"</title>\n")?;
+    Ok(())
+}
+
+/// Appends the start of a group of elements that is moved down.
+fn push_group_start(page: &mut Page, y: u64) -> Result<(), AllocError>
+    ensures { OnOk result
+        (page.new ≡ page.old ++ texts (token_pieces (Open (codes "g") (moved_down y)))) }
+{
+    let mut digits = Buffer::new();
+    let pieces: [&[u8]; 3] = [
+        b"<g transform=\"translate(0 ",
+        digits.format(y).as_bytes(),
+        b")\">",
+    ];
+    push_pieces(page, &pieces)
+}
+
+fn is_entry(answer: &Answer) -> bool
+    ensures { result ≡ is_entry (heard answer.now) }
+{
+    matches!(answer, Answer::Entered(_))
+}
+
+/// Appends what is in the row of a call that led to this table, in which this line tells of it.
+fn push_row_inside(
+    page: &mut Page,
+    layout: &Layout,
+    line: &[u8],
+    entries: usize,
+    raised: u64,
+    table: &Table,
+    actor: u32,
+    event: &Event,
+    answer: &Answer,
+) -> Result<(), AllocError>
+    requires { IsSmall layout.now }
+    ensures { OnOk result (page.new
+        ≡ page.old ++ printed (row_inside layout.now line.now entries raised table.now.table
+        (call_of actor event.now) (heard answer.now))) }
+{
+    push_title(page, line)?;
+    push_cells(
+        page,
+        is_entry(answer),
+        layout.lanes_left(),
+        table,
+        layout.lanes.as_slice(),
+    )?;
+    push_row_words(page, entries, raised, table.raised(), actor, event, answer)?;
+    let actor_lane = layout.actor_place(actor);
+    let lane = layout.aimed_place(aim_of(event, answer));
+    push_marks(page, event, answer, actor_lane, lane)?;
+    Ok(())
+}
