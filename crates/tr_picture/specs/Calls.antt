@@ -104,14 +104,19 @@ aim_of (event.Wait which) (Entered (Waited id word report)) = Some (target.Threa
 aim_of (event.StarterWait which flags) (Entered (Waited id word report)) = Some (target.Group id)
 aim_of e x = aim e
 
+-- the class of the arrow of a wait: one that took no report is a request alone
+abbrev pub style_of_wait : Answer → Style
+style_of_wait (Entered r) = style.Takes
+style_of_wait x = style.Request
+
 -- the class of its arrow
 abbrev pub arrow_style : Event → Answer → Style
 arrow_style e (Refused why) = style.Refused
 arrow_style (event.Kill g s) x = style.Send
 arrow_style (event.Tgkill g id s) x = style.Send
 arrow_style (event.Sigqueue g s v) x = style.Send
-arrow_style (event.Wait which) x = style.Takes
-arrow_style (event.StarterWait which flags) x = style.Takes
+arrow_style (event.Wait which) x = style_of_wait x
+arrow_style (event.StarterWait which flags) x = style_of_wait x
 arrow_style e x = style.Request
 
 -- from an actor's lane to that of a thread or a group

@@ -3,7 +3,7 @@ ghost use Rattle.tr_workers.specs.Follows.{heard};
 ghost use Rattle.tr_scenario.specs.Kinds.{event_name};
 ghost use Rattle.tr_scenario.specs.RunTexts.{call_of};
 ghost use Rattle.tr_picture.specs.declared.styles.Style.TheVariants.{Ink};
-ghost use Rattle.tr_picture.specs.Calls.{aim, aim_of, arrow, arrow_style, call_words, chip, chip_place, chip_words, id_of, is_own, marks, refusal_cross, signal_of};
+ghost use Rattle.tr_picture.specs.Calls.{aim, aim_of, arrow, arrow_style, call_words, chip, chip_place, chip_words, id_of, is_own, marks, refusal_cross, signal_of, style_of_wait};
 ghost use Rattle.tr_picture.specs.Elements.{printed, words};
 ghost use Rattle.tr_picture.specs.Lives.{signal_name};
 
@@ -197,6 +197,16 @@ pub(crate) fn aim_of(event: &Event, answer: &Answer) -> Option<Target>
     }
 }
 
+/// Gives the class of the arrow of a wait: one that took no report is a request alone.
+fn style_of_wait(answer: &Answer) -> Style
+    ensures { result ≡ style_of_wait (heard answer.now) }
+{
+    match answer {
+        Answer::Entered(_) => Style::Takes,
+        _ => Style::Request,
+    }
+}
+
 /// Gives the class of the arrow of a call.
 fn arrow_style(event: &Event, answer: &Answer) -> Style
     ensures { result ≡ arrow_style event.now (heard answer.now) }
@@ -208,8 +218,8 @@ fn arrow_style(event: &Event, answer: &Answer) -> Style
         Event::Kill { .. } => Style::Send,
         Event::Tgkill { .. } => Style::Send,
         Event::Sigqueue { .. } => Style::Send,
-        Event::Wait { .. } => Style::Takes,
-        Event::StarterWait { .. } => Style::Takes,
+        Event::Wait { .. } => style_of_wait(answer),
+        Event::StarterWait { .. } => style_of_wait(answer),
         _ => Style::Request,
     }
 }
