@@ -7,7 +7,7 @@ use std::marker::Model;
 /// How many ids a page has numbers of.
 const PAGE: usize = 256;
 
-/// The numbers of some ids in a row, up to the last that was ever set.
+/// The numbers of some ids in a row, up to the last that room was made for.
 #[derive(Drop)]
 struct Page {
     numbers: Vec<usize>,

@@ -62,7 +62,7 @@ impl Table {
 
     /// An execing thread takes the place and the id of its dead leader, whose record goes, and what waits for it goes with
     /// it: "execve(2) under ptrace" of ptrace(2). Gives the id that it took. Nothing changes where there is no such thread,
-    /// or it is the leader.
+    /// it isn't in execve(2), or it is the leader.
     pub fn take_place(&mut self, id: u32) -> Option<u32>
         ensures { Renames (take_place id) self.old self.new result }
     {
