@@ -5,6 +5,7 @@ pub mod Groups
 pub mod Kernels
 pub mod Kinds
 pub mod Lines
+pub mod Observers
 pub mod Printing
 pub mod Private
 pub mod Replies

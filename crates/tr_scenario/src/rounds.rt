@@ -18,14 +18,14 @@ use tr_status::Sink;
 use tr_workers::{Calls, Ended, Script, Tally};
 
 /// The most turns of a worker.
-const MOST_TURNS: u32 = 100000;
+pub(crate) const MOST_TURNS: u32 = 100000;
 
 /// A worker of a serial run: how far its script has come, and what it counted.
 #[derive(Drop)]
-struct Player<'a> {
-    actor: u32,
-    calls: Calls<'a>,
-    tally: Tally,
+pub(crate) struct Player<'a> {
+    pub(crate) actor: u32,
+    pub(crate) calls: Calls<'a>,
+    pub(crate) tally: Tally,
 }
 
 /// Makes the calls of the scripts in rounds, and prints what is told of the calls, and the lines of the workers. Room for all scripts
@@ -49,7 +49,10 @@ pub(crate) fn fill_workers<T: Telling, W: Sink>(
     Ok(())
 }
 
-fn players_of<'a>(alloc: Global, scripts: &'a [Script]) -> Result<Vec<Player<'a>>, AllocError>
+pub(crate) fn players_of<'a>(
+    alloc: Global,
+    scripts: &'a [Script],
+) -> Result<Vec<Player<'a>>, AllocError>
     ensures { IfOk result (λ players. players.items ≡ map player_of scripts.now) }
 {
     let mut players = Vec::new(alloc);
@@ -90,7 +93,7 @@ fn fill_rounds<T: Telling, W: Sink>(
     Ok(())
 }
 
-fn are_at_end(players: &[Player<'_>]) -> bool
+pub(crate) fn are_at_end(players: &[Player<'_>]) -> bool
     ensures { result ≡ list_all (λ p. is_none (next p.calls)) players.now }
 {
     players.iter().all(|player| player.calls.next().is_none())
