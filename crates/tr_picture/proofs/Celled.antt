@@ -18,27 +18,27 @@ pub pushed_last : (old new : List ℕ) (x : Elements) → new ≡ old ++ printed
 pushed_last old new x h = pushed_both old new new x none h (pushed_none new new refl)
 
 pub thread_told : (old p1 p2 p3 p4 new : List ℕ) (x : ℕ) (t : Thread) (s : Style) → s ≡ style_of_life t.pausing t.life →
-    p1 ≡ old ++ printed (rect s (x + 124) 10 124 34) → p2 ≡ p1 ++ printed (words Name (x + 128) 28 (life_words t.pausing t.life)) → p3 ≡ p2 ++ printed (trace_cell x t.trace) →
+    p1 ≡ old ++ printed (rect s (x + 124) 10 124 44) → p2 ≡ p1 ++ printed (words Name (x + 128) 30 (life_words t.pausing t.life)) → p3 ≡ p2 ++ printed (trace_cell x t.trace) →
     p4 ≡ p3 ++ printed (mark_cell x t) → new ≡ p4 ++ printed (report_cell x t.report) → new ≡ old ++ printed (thread_cell true x (Some t))
 thread_told old p1 p2 p3 p4 new x t s is h1 h2 h3 h4 h5 =
-    let a : Elements = rect (style_of_life t.pausing t.life) (x + 124) 10 124 34 in
-    let b : Elements = words Name (x + 128) 28 (life_words t.pausing t.life) in
+    let a : Elements = rect (style_of_life t.pausing t.life) (x + 124) 10 124 44 in
+    let b : Elements = words Name (x + 128) 30 (life_words t.pausing t.life) in
     let c : Elements = trace_cell x t.trace in
     let d : Elements = mark_cell x t in
     let e : Elements = report_cell x t.report in
-    pushed_both old p1 new a (all (b ∷ c ∷ d ∷ e ∷ [])) (h1 ∙ ap (λ (s : Style). old ++ printed (rect s (x + 124) 10 124 34)) is)
+    pushed_both old p1 new a (all (b ∷ c ∷ d ∷ e ∷ [])) (h1 ∙ ap (λ (s : Style). old ++ printed (rect s (x + 124) 10 124 44)) is)
     (pushed_both p1 p2 new b (all (c ∷ d ∷ e ∷ [])) h2
     (pushed_both p2 p3 new c (all (d ∷ e ∷ [])) h3
     (pushed_both p3 p4 new d (all (e ∷ [])) h4 (pushed_last p4 new e h5))))
 
 pub group_told : (old p1 p2 new : List ℕ) (x : ℕ) (g : Group) (s : Style) → s ≡ style_of_group g.end g.group_stop →
-    p1 ≡ old ++ printed (rect s (x + 124) 10 124 34) → p2 ≡ p1 ++ printed (words Name (x + 128) 28 (group_words g.end g.group_stop)) →
+    p1 ≡ old ++ printed (rect s (x + 124) 10 124 44) → p2 ≡ p1 ++ printed (words Name (x + 128) 30 (group_words g.end g.group_stop)) →
     new ≡ p2 ++ printed (report_cell x g.note) → new ≡ old ++ printed (group_cell true x (Some g))
 group_told old p1 p2 new x g s is h1 h2 h3 =
-    let a : Elements = rect (style_of_group g.end g.group_stop) (x + 124) 10 124 34 in
-    let b : Elements = words Name (x + 128) 28 (group_words g.end g.group_stop) in
+    let a : Elements = rect (style_of_group g.end g.group_stop) (x + 124) 10 124 44 in
+    let b : Elements = words Name (x + 128) 30 (group_words g.end g.group_stop) in
     let c : Elements = report_cell x g.note in
-    pushed_both old p1 new a (all (b ∷ c ∷ [])) (h1 ∙ ap (λ (s : Style). old ++ printed (rect s (x + 124) 10 124 34)) is)
+    pushed_both old p1 new a (all (b ∷ c ∷ [])) (h1 ∙ ap (λ (s : Style). old ++ printed (rect s (x + 124) 10 124 44)) is)
     (pushed_both p1 p2 new b (all (c ∷ [])) h2 (pushed_last p2 new c h3))
 
 pub celled : (old p1 p2 new : List ℕ) (told : Bool) (x : ℕ) (T : Table) (l : Target) (i : Option Instance) (n : ℕ) →

@@ -1,4 +1,8 @@
 pub mod Celled
 pub mod Marked
+pub mod Pictured
 pub mod Printed
+pub mod Pushed
 pub mod Rowed
+pub mod Trees
+pub mod Wholes

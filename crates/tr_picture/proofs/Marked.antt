@@ -5,7 +5,7 @@ use Rattle.tr_model.specs.Runs.{Answer}
 use Rattle.tr_picture.specs.declared.styles.Style.{Style}
 use Rattle.tr_picture.specs.declared.styles.Style.TheVariants as style
 use Rattle.tr_picture.specs.Calls.{arrow, arrow_style, chip, chip_place, chip_words, is_own, marks, refusal_cross}
-use Rattle.tr_picture.specs.Elements.{Elements, all, printed, rect, words}
+use Rattle.tr_picture.specs.Elements.{Elements, all, line, printed, rect, words}
 use Rattle.tr_picture.proofs.Celled.{pushed_last}
 use Rattle.tr_picture.proofs.Printed.{pushed_both}
 
@@ -25,3 +25,9 @@ marked old p1 p2 new e x actor lane place s is at h1 h2 h3 =
     let c : Elements = chip (arrow_style e x) (chip_place (is_own e) actor lane) (chip_words e x) in
     pushed_both old p1 new a (all (b ∷ c ∷ [])) (h1 ∙ ap (λ (t : Style). old ++ printed (arrow t actor lane)) is)
     (pushed_both p1 p2 new b (all (c ∷ [])) h2 (pushed_last p2 new c (h3 ∙ ap (λ (p : Option ℕ). p2 ++ printed (chip (arrow_style e x) p (chip_words e x))) at)))
+
+pub arrow_pushed : (old mid new : List ℕ) (s : Style) (a x : ℕ) (actor lane : Option ℕ) → actor ≡ Some a → lane ≡ Some x →
+    mid ≡ old ++ printed (line s (a + 46) 10 (x + 124) 10) → new ≡ mid ++ printed (rect s (x + 118) 7 6 6) → new ≡ old ++ printed (arrow s actor lane)
+arrow_pushed old mid new s a x actor lane is at h1 h2 =
+    pushed_both old mid new (line s (a + 46) 10 (x + 124) 10) (all (rect s (x + 118) 7 6 6 ∷ [])) h1 (pushed_last mid new (rect s (x + 118) 7 6 6) h2)
+    ∙ (λ i. old ++ printed (arrow s (sym is i) (sym at i)))

@@ -119,9 +119,9 @@ arrow_style (event.Wait which) x = style_of_wait x
 arrow_style (event.StarterWait which flags) x = style_of_wait x
 arrow_style e x = style.Request
 
--- from an actor's lane to that of a thread or a group
+-- from an actor's lane to that of a thread or a group, where it ends in a dot
 abbrev pub arrow : Style → Option ℕ → Option ℕ → Elements
-arrow s (Some a) (Some x) = line s (a + 46) 10 (x + 124) 10
+arrow s (Some a) (Some x) = all (line s (a + 46) 10 (x + 124) 10 ∷ rect s (x + 118) 7 6 6 ∷ [])
 arrow s _ _ = none
 
 -- where a call that is refused aimed

@@ -1,7 +1,12 @@
+pub mod Actors
 pub mod Calls
 pub mod Cells
+pub mod Drawn
+pub mod Draws
 pub mod Elements
 pub mod Layouts
+pub mod Legends
 pub mod Lives
+pub mod Pictures
 pub mod Rows
 pub mod Styles

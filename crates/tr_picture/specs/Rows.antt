@@ -1,13 +1,12 @@
 -- The row of a call: its words, the marks at its event line, and what holds after it.
-use Rattle.std.specs.Prelude.{ℕ, ◌+◌, ◌*◌, List, [], ◌∷◌, Bool, true, false, nat_lt, if◌then◌else◌, codes, decimal, length}
-use Rattle.tr_model.specs.Runs.{Answer, Call, Entered, Read, Refused, State, call}
+use Rattle.std.specs.Prelude.{ℕ, ◌+◌, List, [], ◌∷◌, Bool, true, false, nat_lt, if◌then◌else◌, codes, decimal}
+use Rattle.tr_model.specs.Runs.{Answer, Call, Entered, Read, Refused}
 use Rattle.tr_model.specs.Tables.{Table}
 use Rattle.tr_scenario.specs.Replies.{refusal_text, reply_text}
-use Rattle.tr_scenario.specs.RunTexts.{call_text, state_after}
 use Rattle.tr_picture.specs.declared.styles.Style.TheVariants as style
 use Rattle.tr_picture.specs.Calls.{aim_of, call_words, marks}
 use Rattle.tr_picture.specs.Cells.{cells}
-use Rattle.tr_picture.specs.Elements.{Attribute, Down, Elements, all, both, none, tag, text, words}
+use Rattle.tr_picture.specs.Elements.{Attribute, Down, Elements, all, none, tag, text, words}
 use Rattle.tr_picture.specs.declared.layouts.Layout.{Layout}
 use Rattle.tr_picture.specs.Layouts.{actor_place, aimed_place, lanes_left}
 
@@ -22,9 +21,12 @@ answer_words (Entered r) = reply_text r
 answer_words (Read r) = reply_text r
 answer_words (Refused why) = refusal_text why
 
+abbrev pub raised_words : ℕ → ℕ → List (List ℕ)
+raised_words first last = if nat_lt first last then codes "raises r" ∷ decimal first ∷ codes " to r" ∷ decimal last ∷ [] else codes "raises r" ∷ decimal first ∷ []
+
 -- the first and the last of the reports that it raised, if it raised some
 abbrev pub raised_cell : ℕ → ℕ → Elements
-raised_cell old new = if nat_lt old new then words style.Report 312 30 (codes "raises " ∷ decimal (old + 1) ∷ codes " to " ∷ decimal new ∷ []) else none
+raised_cell old new = if nat_lt old new then words style.Report 312 30 (raised_words (old + 1) new) else none
 
 -- whether it made an entry
 abbrev pub is_entry : Answer → Bool
@@ -53,21 +55,3 @@ row_inside L line n raised T c x = all (
     cells (is_entry x) (lanes_left L) T L.lanes ∷
     row_words n raised T.raised c x ∷
     marks c.event x (actor_place 640 L.actors c.actor) (aimed_place (lanes_left L) L.lanes (aim_of c.event x)) ∷ [])
-
--- the same at its place, below i rows
-abbrev pub row_below : Layout → ℕ → List ℕ → ℕ → ℕ → Table → Call → Answer → Elements
-row_below L i line n raised T c x = tag (codes "g") (moved_down (136 + 34 * i)) (row_inside L line n raised T c x) none
-
--- with the answer that there is
-abbrev pub row_of : Layout → ℕ → State → State → Call → List Answer → Elements
-row_of L i s after c [] = none
-row_of L i s after c (x ∷ xs) = row_below L i (call_text s c) (length after.journal) s.table.raised after.table c x
-
--- the row of a call at a run so far, below i rows
-unfoldable pub row : Layout → ℕ → State → Call → Elements
-row L i s c = row_of L i s (state_after s (c ∷ [])) c (call s c).answers
-
--- of each call its row
-abbrev pub rows : Layout → ℕ → State → List Call → Elements
-rows L i s [] = none
-rows L i s (c ∷ cs) = both (row L i s c) (rows L (i + 1) (state_after s (c ∷ [])) cs)

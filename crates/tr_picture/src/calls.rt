@@ -224,7 +224,7 @@ fn arrow_style(event: &Event, answer: &Answer) -> Style
     }
 }
 
-/// Appends an arrow from an actor's lane to that of a thread or a group, where both are.
+/// Appends an arrow from an actor's lane to that of a thread or a group, where it ends in a dot, if both are there.
 fn push_arrow(
     page: &mut Page,
     style: Style,
@@ -241,7 +241,9 @@ fn push_arrow(
     let Some(to) = lane else {
         return Ok(());
     };
-    push_line(page, style, from + 46, 10, to + 124, 10)
+    push_line(page, style, from + 46, 10, to + 124, 10)?;
+    push_rect(page, style, to + 118, 7, 6, 6)?;
+    Ok(())
 }
 
 /// Appends a cross where a call that is refused aimed.

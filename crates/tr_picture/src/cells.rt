@@ -35,7 +35,7 @@ fn push_trace(page: &mut Page, x: u64, trace: &Option<Trace>) -> Result<(), Allo
         digits.format(trace.tracer).as_bytes(),
         how_traced(trace.seized).as_bytes(),
     ];
-    push_words(page, Style::Dim, x + 128, 41, &pieces)
+    push_words(page, Style::Dim, x + 128, 42, &pieces)
 }
 
 fn letter(is_there: bool, mark: &'static str) -> &'static str
@@ -57,7 +57,7 @@ fn push_marks(page: &mut Page, x: u64, thread: &Thread) -> Result<(), AllocError
         letter(thread.trap_mark, "T").as_bytes(),
         letter(thread.note_mark, "N").as_bytes(),
     ];
-    push_words(page, Style::Ink, x + 224, 28, &pieces)
+    push_words(page, Style::Ink, x + 224, 30, &pieces)
 }
 
 /// Appends the number of a report, if there is one.
@@ -70,7 +70,7 @@ fn push_report(page: &mut Page, x: u64, report: &Option<Report>) -> Result<(), A
     };
     let mut digits = Buffer::new();
     let pieces: [&[u8]; 2] = [b"r", digits.format(report.number).as_bytes()];
-    push_words(page, Style::Report, x + 252, 28, &pieces)
+    push_words(page, Style::Report, x + 252, 30, &pieces)
 }
 
 /// Appends all that is known of a thread.
@@ -79,7 +79,7 @@ fn push_thread(page: &mut Page, x: u64, thread: &Thread) -> Result<(), AllocErro
     ensures { OnOk result (page.new ≡ page.old ++ printed (thread_cell true x (Some thread.now))) }
 {
     let style = style_of_life(thread.pausing, &thread.life);
-    push_rect(page, style, x + 124, 10, 124, 34)?;
+    push_rect(page, style, x + 124, 10, 124, 44)?;
     push_life(page, x + 128, thread.pausing, &thread.life)?;
     push_trace(page, x, &thread.trace)?;
     push_marks(page, x, thread)?;
@@ -96,7 +96,7 @@ fn push_thread_cell(page: &mut Page, told: bool, x: u64, thread: &Thread) -> Res
         return push_thread(page, x, thread);
     }
     let style = style_of_life(thread.pausing, &thread.life);
-    push_rect(page, style, x + 124, 10, 124, 34)
+    push_rect(page, style, x + 124, 10, 124, 44)
 }
 
 /// Appends all that is known of a group.
@@ -105,7 +105,7 @@ fn push_group(page: &mut Page, x: u64, group: &Group) -> Result<(), AllocError>
     ensures { OnOk result (page.new ≡ page.old ++ printed (group_cell true x (Some group.now))) }
 {
     let style = style_of_group(group.end, group.group_stop);
-    push_rect(page, style, x + 124, 10, 124, 34)?;
+    push_rect(page, style, x + 124, 10, 124, 44)?;
     push_group_words(page, x + 128, group.end, group.group_stop)?;
     push_report(page, x, &group.note)?;
     Ok(())
@@ -120,7 +120,7 @@ fn push_group_cell(page: &mut Page, told: bool, x: u64, group: &Group) -> Result
         return push_group(page, x, group);
     }
     let style = style_of_group(group.end, group.group_stop);
-    push_rect(page, style, x + 124, 10, 124, 34)
+    push_rect(page, style, x + 124, 10, 124, 44)
 }
 
 /// Appends the block of the thread with an id, if it is there.
@@ -186,7 +186,7 @@ fn push_more(page: &mut Page, x: u64, waiting: usize) -> Result<(), AllocError>
     }
     let mut digits = Buffer::new();
     let pieces: [&[u8]; 2] = [b"+", digits.format(waiting - 1).as_bytes()];
-    push_words(page, Style::Waiting, x + 90, 28, &pieces)
+    push_words(page, Style::Waiting, x + 90, 30, &pieces)
 }
 
 /// Appends the number and the name of a signal that waits.
@@ -203,7 +203,7 @@ fn push_first(page: &mut Page, x: u64, instance: Option<Instance>) -> Result<(),
         b" ",
         signal_name(instance.sig.number()).as_bytes(),
     ];
-    push_words(page, Style::Waiting, x + 4, 28, &pieces)
+    push_words(page, Style::Waiting, x + 4, 30, &pieces)
 }
 
 /// Appends what waits in the lane of a thread or a group, and what it is doing.

@@ -1,4 +1,4 @@
-ghost use Rattle.std.specs.Prelude.{◌≡◌, ◌++◌, OnOk, map};
+ghost use Rattle.std.specs.Prelude.{◌≡◌, ◌∷◌, ◌++◌, [], OnOk, decimal, map};
 ghost use Rattle.tr_status.specs.Texts.{texts};
 ghost use Rattle.tr_picture.specs.Elements.{AreBalanced, cross, escape_of, escaped, line, printed, rect, words, words_begin};
 
@@ -41,7 +41,7 @@ pub(crate) fn push_escaped(page: &mut Page, text: &[u8]) -> Result<(), AllocErro
 }
 
 /// Appends pieces of a text, with what stands for their characters.
-fn push_escaped_pieces(page: &mut Page, pieces: &[&[u8]]) -> Result<(), AllocError>
+pub(crate) fn push_escaped_pieces(page: &mut Page, pieces: &[&[u8]]) -> Result<(), AllocError>
     ensures { OnOk result
         (page.new ≡ page.old ++ texts (map escaped (map (λ p. p.now) pieces.now))) }
 {
@@ -114,7 +114,12 @@ pub(crate) fn push_line(
 }
 
 /// Appends what comes before words at a place.
-fn push_words_begin(page: &mut Page, style: Style, x: u64, y: u64) -> Result<(), AllocError>
+pub(crate) fn push_words_begin(
+    page: &mut Page,
+    style: Style,
+    x: u64,
+    y: u64,
+) -> Result<(), AllocError>
     ensures { OnOk result (page.new ≡ page.old ++ texts (words_begin style x y)) }
 {
     let mut x_digits = Buffer::new();
@@ -146,6 +151,22 @@ pub(crate) fn push_words(
     push_escaped_pieces(page, pieces)?;
     page.push(b"</text>\n")?;
     Ok(())
+}
+
+/// Appends a number at a place.
+pub(crate) fn push_number(
+    page: &mut Page,
+    style: Style,
+    x: u64,
+    y: u64,
+    number: u32,
+) -> Result<(), AllocError>
+    ensures { OnOk result (page.new
+        ≡ page.old ++ printed (words style x y (decimal number ∷ []))) }
+{
+    let mut digits = Buffer::new();
+    let pieces: [&[u8]; 1] = [digits.format(number).as_bytes()];
+    push_words(page, style, x, y, &pieces)
 }
 
 /// Appends a cross.

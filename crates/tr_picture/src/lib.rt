@@ -1,14 +1,21 @@
 //! Pictures of runs.
 #![tactic(auto)]
 
+mod actors;
 mod calls;
+mod canvas;
 mod cells;
+mod drawing;
 mod elements;
 mod layouts;
+mod legends;
 mod lives;
+mod pictures;
 mod rows;
 mod styles;
 
+pub use drawing::draw;
 pub use elements::tags_are_balanced;
 pub use layouts::Layout;
+pub use pictures::{Facts, pictures_are_of_elements};
 pub use styles::Style;

@@ -70,14 +70,14 @@ pub(crate) fn style_of_group(end: Option<End>, stop: GroupStop) -> Style
 /// Appends a word, and a number after it, at a place in a block.
 fn push_number(page: &mut Page, x: u64, word: &[u8], number: u64) -> Result<(), AllocError>
     ensures { OnOk result (page.new
-        ≡ page.old ++ printed (words Name x 28 (word.now ∷ decimal number ∷ []))) }
+        ≡ page.old ++ printed (words Name x 30 (word.now ∷ decimal number ∷ []))) }
 {
     let mut digits = Buffer::new();
     push_words(
         page,
         Style::Name,
         x,
-        28,
+        30,
         &[word, digits.format(number).as_bytes()],
     )
 }
@@ -85,24 +85,24 @@ fn push_number(page: &mut Page, x: u64, word: &[u8], number: u64) -> Result<(), 
 /// Appends a word, and the name of a signal after it, at a place in a block.
 fn push_signal(page: &mut Page, x: u64, word: &'static [u8], sig: u8) -> Result<(), AllocError>
     ensures { OnOk result (page.new
-        ≡ page.old ++ printed (words Name x 28 (word.now ∷ signal_name sig ∷ []))) }
+        ≡ page.old ++ printed (words Name x 30 (word.now ∷ signal_name sig ∷ []))) }
 {
     let pieces: [&[u8]; 2] = [word, signal_name(sig).as_bytes()];
-    push_words(page, Style::Name, x, 28, &pieces)
+    push_words(page, Style::Name, x, 30, &pieces)
 }
 
 /// Appends a word at a place in a block.
 fn push_word(page: &mut Page, x: u64, word: &[u8]) -> Result<(), AllocError>
     ensures { OnOk result (page.new
-        ≡ page.old ++ printed (words Name x 28 (word.now ∷ []))) }
+        ≡ page.old ++ printed (words Name x 30 (word.now ∷ []))) }
 {
-    push_words(page, Style::Name, x, 28, &[word])
+    push_words(page, Style::Name, x, 30, &[word])
 }
 
 /// Appends how a thread or a group ends, after a word, at a place in its block.
 fn push_end(page: &mut Page, x: u64, word: &'static [u8], end: &End) -> Result<(), AllocError>
     ensures { OnOk result
-        (page.new ≡ page.old ++ printed (words Name x 28 (end_words word.now end.now))) }
+        (page.new ≡ page.old ++ printed (words Name x 30 (end_words word.now end.now))) }
 {
     match end {
         End::Exited(code) => push_number(page, x, word, u64::from(*code)),
@@ -113,7 +113,7 @@ fn push_end(page: &mut Page, x: u64, word: &'static [u8], end: &End) -> Result<(
 /// Appends the words of a ptrace-stop.
 fn push_stop(page: &mut Page, x: u64, stop: &Stop) -> Result<(), AllocError>
     ensures { OnOk result (page.new
-        ≡ page.old ++ printed (words Name x 28 (life_words false (InStop stop.now)))) }
+        ≡ page.old ++ printed (words Name x 30 (life_words false (InStop stop.now)))) }
 {
     match stop {
         Stop::Signal { held, .. } => push_signal(page, x, b"signal ", held.sig.number()),
@@ -133,7 +133,7 @@ pub(crate) fn push_life(
     life: &Life,
 ) -> Result<(), AllocError>
     ensures { OnOk result (page.new
-        ≡ page.old ++ printed (words Name x 28 (life_words pausing life.now))) }
+        ≡ page.old ++ printed (words Name x 30 (life_words pausing life.now))) }
 {
     match life {
         Life::Free if pausing => push_word(page, x, b"pausing"),
@@ -155,7 +155,7 @@ pub(crate) fn push_group_words(
     stop: GroupStop,
 ) -> Result<(), AllocError>
     ensures { OnOk result
-        (page.new ≡ page.old ++ printed (words Name x 28 (group_words end stop))) }
+        (page.new ≡ page.old ++ printed (words Name x 30 (group_words end stop))) }
 {
     match end {
         Some(end) => push_end(page, x, b"dying ", &end),

@@ -21,7 +21,7 @@ use tr_scenario::{LineBuffer, Page, prepend_reply, refusal_text};
 use tr_table::Table;
 
 /// Appends the place of a call's entry in a journal of so many entries.
-fn push_position(page: &mut Page, entries: usize, answer: &Answer) -> Result<(), AllocError>
+fn push_position(page: &mut Page, entries: u64, answer: &Answer) -> Result<(), AllocError>
     ensures { OnOk result (page.new
         ≡ page.old ++ printed (words Dim 16 14 (position_words entries (heard answer.now) ∷ []))) }
 {
@@ -70,20 +70,19 @@ fn push_raised(page: &mut Page, before: u64, after: u64) -> Result<(), AllocErro
         return Ok(());
     }
     let mut first = Buffer::new();
+    let first = first.format(before + 1).as_bytes();
+    if before + 1 >= after {
+        return push_words(page, Style::Report, 312, 30, &[b"raises r", first]);
+    }
     let mut last = Buffer::new();
-    let pieces: [&[u8]; 4] = [
-        b"raises ",
-        first.format(before + 1).as_bytes(),
-        b" to ",
-        last.format(after).as_bytes(),
-    ];
+    let pieces: [&[u8]; 4] = [b"raises r", first, b" to r", last.format(after).as_bytes()];
     push_words(page, Style::Report, 312, 30, &pieces)
 }
 
 /// Appends the words of a call, after which there are so many entries and reports.
 fn push_row_words(
     page: &mut Page,
-    entries: usize,
+    entries: u64,
     raised: u64,
     raised_after: u64,
     actor: u32,
@@ -112,7 +111,7 @@ fn push_title(page: &mut Page, line: &[u8]) -> Result<(), AllocError>
 }
 
 /// Appends the start of a group of elements that is moved down.
-fn push_group_start(page: &mut Page, y: u64) -> Result<(), AllocError>
+pub(crate) fn push_group_start(page: &mut Page, y: u64) -> Result<(), AllocError>
     ensures { OnOk result
         (page.new ≡ page.old ++ texts (token_pieces (Open (codes "g") (moved_down y)))) }
 {
@@ -132,11 +131,11 @@ fn is_entry(answer: &Answer) -> bool
 }
 
 /// Appends what is in the row of a call that led to this table, in which this line tells of it.
-fn push_row_inside(
+pub(crate) fn push_row_inside(
     page: &mut Page,
     layout: &Layout,
     line: &[u8],
-    entries: usize,
+    entries: u64,
     raised: u64,
     table: &Table,
     actor: u32,

@@ -1,0 +1,10 @@
+use Rattle.std.proofs.Common.{◌≡◌, ◌+◌, ◌*◌, ◌++◌, drop, map}
+use Rattle.tr_picture.specs.Elements.{printed}
+use Rattle.tr_picture.specs.Legends.{block_items}
+use Rattle.tr_picture.proofs.legends.push_block_items.Given as goal
+
+abbrev pub invariant-loop-meaning : goal.invariant-loop-meaning
+invariant-loop-meaning l = record {
+  text : l.page ++ printed (block_items l.x l.y (map (λ m. (m.style, m.words.now)) (drop l.meaning-index l.meanings))) ≡ l.fn.page ++ printed (block_items l.x l.top (map (λ m. (m.style, m.words.now)) l.meanings));
+  y : l.y ≡ l.top + 22 * l.meaning-index;
+}
