@@ -10,10 +10,10 @@ use Rattle.tr_picture.proofs.Celled.{pushed_last}
 use Rattle.tr_picture.proofs.Printed.{pushed_both}
 
 pub chip_pushed : (old mid new : List ℕ) (s t : Style) (x : ℕ) (o : Option ℕ) (ws : List (List ℕ)) → o ≡ Some x → t ≡ s →
-    mid ≡ old ++ printed (rect style.Chip x 2 88 16) → new ≡ mid ++ printed (words t (x + 4) 14 ws) → new ≡ old ++ printed (chip s o ws)
+    mid ≡ old ++ printed (rect style.Chip x 2 114 16) → new ≡ mid ++ printed (words t (x + 4) 14 ws) → new ≡ old ++ printed (chip s o ws)
 chip_pushed old mid new s t x o ws at is h1 h2 =
     let b : Elements = words s (x + 4) 14 ws in
-    pushed_both old mid new (rect style.Chip x 2 88 16) (all (b ∷ [])) h1 (pushed_last mid new b (h2 ∙ ap (λ (t : Style). mid ++ printed (words t (x + 4) 14 ws)) is))
+    pushed_both old mid new (rect style.Chip x 2 114 16) (all (b ∷ [])) h1 (pushed_last mid new b (h2 ∙ ap (λ (t : Style). mid ++ printed (words t (x + 4) 14 ws)) is))
     ∙ ap (λ (p : Option ℕ). old ++ printed (chip s p ws)) (sym at)
 
 pub marked : (old p1 p2 new : List ℕ) (e : Event) (x : Answer) (actor lane place : Option ℕ) (s : Style) → s ≡ arrow_style e x → place ≡ chip_place (is_own e) actor lane →

@@ -1,5 +1,5 @@
 -- The picture of a run, from its parts.
-use Rattle.std.proofs.Common.{◌≡◌, ◌+◌, ◌∙◌, ℕ, Bool, true, List, [], ◌∷◌, ◌++◌, ap, sym, codes, decimal, length, map, IfOk, OnOk, Result, Ok, Err}
+use Rattle.std.proofs.Common.{◌≡◌, ◌+◌, ◌∙◌, ℕ, Bool, true, false, if◌then◌else◌, List, [], ◌∷◌, ◌++◌, ap, sym, codes, decimal, length, map, IfOk, OnOk, Result, Ok, Err}
 use Rattle.std.specs.declared.alloc.AllocError.{AllocError}
 use Rattle.tr_model.specs.declared.fates.Totals.{Totals}
 use Rattle.tr_model.specs.declared.rows.Target.{Target}
@@ -23,7 +23,7 @@ use Rattle.tr_picture.specs.declared.layouts.Layout.{Layout}
 use Rattle.tr_picture.specs.declared.pictures.Facts.{Facts}
 use Rattle.tr_picture.specs.declared.styles.Style.TheVariants as style
 use Rattle.tr_picture.specs.Actors.{job_actors}
-use Rattle.tr_picture.specs.Drawn.{Drawn, begun, blank, closed, counted, drawn, with_answer, with_answered, with_call, with_groups, with_row, with_start_row}
+use Rattle.tr_picture.specs.Drawn.{Drawn, begun, blank, closed, counted, drawn, is_full, shown, with_answer, with_answered, with_call, with_groups, with_row, with_start_row}
 use Rattle.tr_picture.specs.Elements.{Elements, Open, all, escaped, printed, rect, token_pieces, words}
 use Rattle.tr_picture.specs.Cells.{cells}
 use Rattle.tr_picture.specs.Layouts.{lanes_left}
@@ -84,13 +84,16 @@ start_row_is e d T p1 p2 text left lanes is at are h1 h2 h3 =
     ap (λ t. record e { text = t }) (pushed_tag e.text p1 p2 text (codes "g") (moved_down 92) (cells true (lanes_left e.layout) T e.layout.lanes) h1 (h2 ∙ (λ i. p1 ++ printed (cells true (at i) T (are i)))) h3)
     ∙ ap (λ (x : Drawn). with_start_row x T) is
 
-pub called_is : (d e v v2 after : Drawn) (line cleared pushed bytes : List ℕ) (n k m raised : ℕ) (T U : Table) (c : Call) (x : Answer) → v ≡ e → e ≡ with_answer d x → cleared ≡ [] → n ≡ k → U ≡ T →
-    pushed ≡ cleared ++ printed (row_inside v.layout line n raised U c x) → bytes ≡ pushed → after ≡ with_row e bytes → v2 ≡ after → m ≡ v2.calls + 1 → record v2 { calls = m } ≡ with_call d line k raised T c x
-called_is d e v v2 after line cleared pushed bytes n k m raised T U c x same heard none is_n is_T h is_b row same2 more =
-    let inside : bytes ≡ printed (row_inside e.layout line k raised T c x) = is_b ∙ h ∙ (λ i. none i ++ printed (row_inside (same i).layout line (is_n i) raised (is_T i) c x)) in
-    ap (λ (j : ℕ). record v2 { calls = j }) more
-    ∙ ap counted (same2 ∙ row ∙ ap (λ b. with_row e b) inside)
-    ∙ ap (λ (y : Drawn). counted (with_row y (printed (row_inside y.layout line k raised T c x)))) heard
+pub shown_is : {X : Type 0} (d v after : Drawn) (line cleared pushed bytes : List ℕ) (n k raised : ℕ) (T U : Table) (c : Call) (x : Answer) (r : Result X AllocError) → is_full d ≡ false → v ≡ d → cleared ≡ [] → n ≡ k → U ≡ T →
+    pushed ≡ cleared ++ printed (row_inside v.layout line n raised U c x) → bytes ≡ pushed → OnOk r (after ≡ with_row d bytes) → OnOk r (after ≡ shown d line k raised T c x)
+shown_is d v after line cleared pushed bytes n k raised T U c x (Ok y) free same none is_n is_T h is_b row =
+    let inside : bytes ≡ printed (row_inside d.layout line k raised T c x) = is_b ∙ h ∙ (λ i. none i ++ printed (row_inside (same i).layout line (is_n i) raised (is_T i) c x)) in
+    row ∙ ap (λ b. with_row d b) inside ∙ ap (λ b. if b then record d { lost = d.lost + 1 } else with_row d (printed (row_inside d.layout line k raised T c x))) (sym free)
+shown_is d v after line cleared pushed bytes n k raised T U c x (Err e) free same none is_n is_T h is_b row = tt
+
+pub called_is : (d h v after : Drawn) (line : List ℕ) (k m raised : ℕ) (T : Table) (c : Call) (x : Answer) → h ≡ with_answer d x → after ≡ shown h line k raised T c x → v ≡ after → m ≡ v.calls + 1 → record v { calls = m } ≡ with_call d line k raised T c x
+called_is d h v after line k m raised T c x heard show same more =
+    ap (λ (j : ℕ). record v { calls = j }) more ∙ ap counted (same ∙ show ∙ ap (λ (y : Drawn). shown y line k raised T c x) heard)
 
 pub finished_is : (page new : List ℕ) (k : State) (x y d : Drawn) (n l m : ℕ) (t : Totals) → x ≡ d → y ≡ closed x → page ≡ [] →
     n ≡ length k.journal → l ≡ k.table.limit → m ≡ k.table.entries → t ≡ totals (table_of k.start) k.journal k.table →

@@ -7,6 +7,7 @@ use Rattle.tr_picture.specs.declared.layouts.Layout.{Layout}
 use Rattle.tr_picture.specs.declared.styles.Style.TheVariants.{Dim, Ink}
 use Rattle.tr_picture.specs.Calls.{aim_of, call_words, marks}
 use Rattle.tr_picture.specs.Cells.{cells}
+use Rattle.tr_picture.specs.Details.{detail}
 use Rattle.tr_picture.specs.Elements.{Elements, all, none, printed, text, words, escaped}
 use Rattle.tr_picture.specs.Layouts.{actor_place, aimed_place, lanes_left}
 use Rattle.tr_picture.specs.Rows.{answer_words, is_entry, position_words, raised_cell, row_inside, row_words, title}
@@ -23,15 +24,19 @@ pub sheeted : (old p1 p2 new bytes : List ℕ) → bytes ≡ style_sheet → p1 
 sheeted old p1 p2 new bytes is h1 h2 h3 =
     pushed_tag old p1 p2 new (codes "style") [] (text (style_sheet ∷ []) none) h1 (h2 ∙ ap (λ b. p1 ++ escaped b) is ∙ ap (λ t. p1 ++ t) (sym (append-nil (escaped style_sheet)))) h3
 
-pub worded : (old p1 p2 p3 new : List ℕ) (n r r_after : ℕ) (c : Call) (x : Answer) →
-    p1 ≡ old ++ printed (words Dim 16 14 (position_words n x ∷ [])) → p2 ≡ p1 ++ printed (words Ink 64 14 (call_words c)) → p3 ≡ p2 ++ printed (words Ink 312 14 (answer_words x ∷ [])) →
-    new ≡ p3 ++ printed (raised_cell r r_after) → new ≡ old ++ printed (row_words n r r_after c x)
-worded old p1 p2 p3 new n r r_after c x h1 h2 h3 h4 =
+pub worded : (old p1 p2 p3 p4 new : List ℕ) (n r r_after : ℕ) (c : Call) (x : Answer) →
+    p1 ≡ old ++ printed (words Dim 16 14 (position_words n x ∷ [])) → p2 ≡ p1 ++ printed (words Ink 64 14 (call_words c)) → p3 ≡ p2 ++ printed (detail c.event) → p4 ≡ p3 ++ printed (words Ink 312 14 (answer_words x ∷ [])) →
+    new ≡ p4 ++ printed (raised_cell r r_after) → new ≡ old ++ printed (row_words n r r_after c x)
+worded old p1 p2 p3 p4 new n r r_after c x h1 h2 h3 h4 h5 =
     let a : Elements = words Dim 16 14 (position_words n x ∷ []) in
     let b : Elements = words Ink 64 14 (call_words c) in
+    let m : Elements = detail c.event in
     let d : Elements = words Ink 312 14 (answer_words x ∷ []) in
     let e : Elements = raised_cell r r_after in
-    pushed_both old p1 new a (all (b ∷ d ∷ e ∷ [])) h1 (pushed_both p1 p2 new b (all (d ∷ e ∷ [])) h2 (pushed_both p2 p3 new d (all (e ∷ [])) h3 (pushed_last p3 new e h4)))
+    pushed_both old p1 new a (all (b ∷ m ∷ d ∷ e ∷ [])) h1
+    (pushed_both p1 p2 new b (all (m ∷ d ∷ e ∷ [])) h2
+    (pushed_both p2 p3 new m (all (d ∷ e ∷ [])) h3
+    (pushed_both p3 p4 new d (all (e ∷ [])) h4 (pushed_last p4 new e h5))))
 
 pub row_filled : (old p1 p2 p3 new : List ℕ) (L : Layout) (line : List ℕ) (n r r_after : ℕ) (T : Table) (c : Call) (x : Answer) (told : Bool) (left : ℕ) (lanes : List Target) (actor lane : Option ℕ) →
     told ≡ is_entry x → left ≡ lanes_left L → lanes ≡ L.lanes → r_after ≡ T.raised → actor ≡ actor_place 640 L.actors c.actor → lane ≡ aimed_place (lanes_left L) L.lanes (aim_of c.event x) →

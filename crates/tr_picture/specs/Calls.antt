@@ -126,17 +126,17 @@ arrow s _ _ = none
 
 -- where a call that is refused aimed
 abbrev pub refusal_cross : Answer → Option ℕ → Elements
-refusal_cross (Refused why) (Some x) = cross style.Refused (x + 114)
+refusal_cross (Refused why) (Some x) = cross style.Refused (x + 104)
 refusal_cross _ _ = none
 
 -- where its chip is: in the lane of the thread that does it by itself, else in that of its actor
 abbrev pub chip_place : Bool → Option ℕ → Option ℕ → Option ℕ
-chip_place true actor (Some x) = Some (x + 142)
+chip_place true actor (Some x) = Some (x + 130)
 chip_place _ actor lane = actor
 
 abbrev pub chip : Style → Option ℕ → List (List ℕ) → Elements
 chip s None t = none
-chip s (Some x) t = all (rect style.Chip x 2 88 16 ∷ words s (x + 4) 14 t ∷ [])
+chip s (Some x) t = all (rect style.Chip x 2 114 16 ∷ words s (x + 4) 14 t ∷ [])
 
 -- the lanes of its actor, and of the thread or group that it aims at, begin here, where they have one
 abbrev pub marks : Event → Answer → Option ℕ → Option ℕ → Elements

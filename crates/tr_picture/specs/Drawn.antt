@@ -1,5 +1,5 @@
 -- What is drawn of a run so far: the lanes, and a row for each call.
-use Rattle.std.specs.Prelude.{ℕ, ◌+◌, ◌*◌, List, [], ◌∷◌, ◌++◌, true, nat_lt, if◌then◌else◌, codes, decimal, length, take}
+use Rattle.std.specs.Prelude.{ℕ, Bool, ◌+◌, ◌*◌, List, [], ◌∷◌, ◌++◌, ◌==◌, true, false, nat_lt, if◌then◌else◌, codes, decimal, length, take}
 use Rattle.std.specs.Str.{bytes_eq}
 use Rattle.tr_sigset.specs.declared.sets.SigSet.{SigSet}
 use Rattle.tr_model.specs.declared.replies.Reply.TheVariants.{Cloned}
@@ -42,7 +42,7 @@ actor_head x a = all (words style.Ink (x + 4) 78 (decimal a ∷ []) ∷ words st
 -- of each actor its head, the first at x
 abbrev pub actor_heads : ℕ → List ℕ → Elements
 actor_heads x [] = none
-actor_heads x (a ∷ rest) = both (actor_head x a) (actor_heads (x + 92) rest)
+actor_heads x (a ∷ rest) = both (actor_head x a) (actor_heads (x + 118) rest)
 
 abbrev pub thread_head : ℕ → ℕ → Elements
 thread_head x id = words style.Ink (x + 128) 94 (codes "thread " ∷ decimal id ∷ [])
@@ -124,11 +124,17 @@ with_answer d x = d
 abbrev pub counted : Drawn → Drawn
 counted d = record d { calls = d.calls + 1 }
 
+-- there are 200 rows, and a call came that is in none of them
+abbrev pub is_full : Drawn → Bool
+is_full d = if nat_lt d.rows 200 then false else length d.last == 0
+
+-- the row of a call, if it may have one
+abbrev pub shown : Drawn → List ℕ → ℕ → ℕ → Table → Call → Answer → Drawn
+shown d line n raised T c x = if is_full d then record d { lost = d.lost + 1 } else with_row d (printed (row_inside d.layout line n raised T c x))
+
 -- a call with its line, after which there are so many entries, and before which there were so many reports
 abbrev pub with_call : Drawn → List ℕ → ℕ → ℕ → Table → Call → Answer → Drawn
-with_call d line n raised T c x =
-    let heard : Drawn = with_answer d x in
-    counted (with_row heard (printed (row_inside heard.layout line n raised T c x)))
+with_call d line n raised T c x = counted (shown (with_answer d x) line n raised T c x)
 
 -- with the answer that there is
 abbrev pub with_answered : Drawn → State → State → Call → List Answer → Drawn

@@ -9,7 +9,7 @@ use Rattle.tr_picture.specs.declared.layouts.Layout.{Layout}
 -- where the lane of this actor begins, if it has one; the first of these lanes begins at x
 abbrev pub actor_place : ℕ → List ℕ → ℕ → Option ℕ
 actor_place x [] actor = None
-actor_place x (a ∷ rest) actor = if a == actor then Some x else actor_place (x + 92) rest actor
+actor_place x (a ∷ rest) actor = if a == actor then Some x else actor_place (x + 118) rest actor
 
 -- where the lane of this thread or group begins, if it has one
 abbrev pub lane_place : ℕ → List Target → Target → Option ℕ
@@ -26,7 +26,7 @@ has_lane ls t = list_any (same_target t) ls
 
 -- where the lanes of threads and groups begin
 abbrev pub lanes_left : Layout → ℕ
-lanes_left L = 654 + 92 * length L.actors
+lanes_left L = 654 + 118 * length L.actors
 
 -- where they end
 abbrev pub lanes_right : Layout → ℕ

@@ -1,6 +1,7 @@
 pub mod Actors
 pub mod Calls
 pub mod Cells
+pub mod Details
 pub mod Drawn
 pub mod Draws
 pub mod Elements

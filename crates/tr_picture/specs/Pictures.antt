@@ -83,7 +83,7 @@ life_line x y a = all (line style.Dim (x + 46) 102 (x + 46) y ∷ words style.Di
 -- of each actor a line, the first lane at x
 abbrev pub life_lines : ℕ → ℕ → List ℕ → Elements
 life_lines x y [] = none
-life_lines x y (a ∷ rest) = both (life_line x y a) (life_lines (x + 92) y rest)
+life_lines x y (a ∷ rest) = both (life_line x y a) (life_lines (x + 118) y rest)
 
 abbrev pub head : Drawn → Facts → Elements
 head d f = all (

@@ -6,6 +6,7 @@ use Rattle.tr_scenario.specs.Replies.{refusal_text, reply_text}
 use Rattle.tr_picture.specs.declared.styles.Style.TheVariants as style
 use Rattle.tr_picture.specs.Calls.{aim_of, call_words, marks}
 use Rattle.tr_picture.specs.Cells.{cells}
+use Rattle.tr_picture.specs.Details.{detail}
 use Rattle.tr_picture.specs.Elements.{Attribute, Down, Elements, all, none, tag, text, words}
 use Rattle.tr_picture.specs.declared.layouts.Layout.{Layout}
 use Rattle.tr_picture.specs.Layouts.{actor_place, aimed_place, lanes_left}
@@ -45,6 +46,7 @@ abbrev pub row_words : ℕ → ℕ → ℕ → Call → Answer → Elements
 row_words n raised raised_after c x = all (
     words style.Dim 16 14 (position_words n x ∷ []) ∷
     words style.Ink 64 14 (call_words c) ∷
+    detail c.event ∷
     words style.Ink 312 14 (answer_words x ∷ []) ∷
     raised_cell raised raised_after ∷ [])
 

@@ -256,7 +256,7 @@ fn push_refusal(page: &mut Page, answer: &Answer, lane: Option<u64>) -> Result<(
         return Ok(());
     };
     match lane {
-        Some(x) => push_cross(page, Style::Refused, x + 114),
+        Some(x) => push_cross(page, Style::Refused, x + 104),
         None => Ok(()),
     }
 }
@@ -271,7 +271,7 @@ fn chip_place(is_own: bool, actor: Option<u64>, lane: Option<u64>) -> Option<u64
         return actor;
     }
     match lane {
-        Some(x) => Some(x + 142),
+        Some(x) => Some(x + 130),
         None => actor,
     }
 }
@@ -322,7 +322,7 @@ fn push_chip(
     let Some(x) = place else {
         return Ok(());
     };
-    push_rect(page, Style::Chip, x, 2, 88, 16)?;
+    push_rect(page, Style::Chip, x, 2, 114, 16)?;
     push_chip_words(page, arrow_style(event, answer), x + 4, event, answer)?;
     Ok(())
 }

@@ -2,7 +2,7 @@ ghost use Rattle.std.specs.Prelude.{◌≡◌, ◌≤◌, ◌<◌, ◌+◌, ◌+
 ghost use Rattle.std.specs.Str.{bytes_eq};
 ghost use Rattle.tr_workers.specs.Follows.{heard};
 ghost use Rattle.tr_scenario.specs.RunTexts.{call_of};
-ghost use Rattle.tr_picture.specs.Drawn.{Drawn, actor_head, actor_heads, blank, closed, group_head, placed, thread_head, times_note, with_answer, with_call, with_group, with_groups, with_new_row, with_row, with_start_row, with_thread, with_threads};
+ghost use Rattle.tr_picture.specs.Drawn.{Drawn, actor_head, actor_heads, blank, closed, group_head, is_full, placed, shown, thread_head, times_note, with_answer, with_call, with_group, with_groups, with_new_row, with_row, with_start_row, with_thread, with_threads};
 ghost use Rattle.tr_picture.specs.declared.styles.Style.TheVariants.{Ink};
 ghost use Rattle.tr_picture.specs.Elements.{printed, words};
 ghost use Rattle.tr_picture.specs.Layouts.{IsLaidOut};
@@ -82,7 +82,7 @@ fn push_actor_heads(page: &mut Page, actors: &[u32]) -> Result<(), AllocError>
     let mut x = 640;
     for actor in actors {
         push_actor_head(page, x, *actor)?;
-        x += 92;
+        x += 118;
     }
     Ok(())
 }
@@ -282,6 +282,51 @@ impl Canvas {
         self.add_thread(tid)
     }
 
+    /// Whether no further call may have a row.
+    fn is_full(&self) -> bool
+        ensures { result ≡ is_full self.now }
+    {
+        if self.rows < MOST_ROWS {
+            false
+        } else {
+            self.last.len() == 0
+        }
+    }
+
+    /// Draws the row of a call that was made, if it may have one.
+    fn show(
+        &mut self,
+        inside: &mut Page,
+        line: &[u8],
+        raised: u64,
+        kernel: &Kernel,
+        actor: u32,
+        event: &Event,
+        answer: &Answer,
+    ) -> Result<(), AllocError>
+        ensures { OnOk result (self.new
+            ≡ shown self.old line.now (length kernel.now.journal) raised kernel.now.table
+            (call_of actor event.now) (heard answer.now)) }
+    {
+        if self.is_full() {
+            self.lost = one_more(self.lost)?;
+            return Ok(());
+        }
+        inside.clear();
+        push_row_inside(
+            inside,
+            &self.layout,
+            line,
+            kernel.position(),
+            raised,
+            kernel.table(),
+            actor,
+            event,
+            answer,
+        )?;
+        self.push_row(inside.as_bytes())
+    }
+
     /// Draws a call that was made, with its line. Before it there were so many reports.
     pub fn push_call(
         &mut self,
@@ -298,19 +343,7 @@ impl Canvas {
             (call_of actor event.now) (heard answer.now)) }
     {
         self.hear(answer)?;
-        inside.clear();
-        push_row_inside(
-            inside,
-            &self.layout,
-            line,
-            kernel.position(),
-            raised,
-            kernel.table(),
-            actor,
-            event,
-            answer,
-        )?;
-        self.push_row(inside.as_bytes())?;
+        self.show(inside, line, raised, kernel, actor, event, answer)?;
         self.calls = one_more(self.calls)?;
         Ok(())
     }

@@ -96,7 +96,7 @@ impl Layout {
         ensures left { result ≡ lanes_left self.now }
         ensures small { result < 2 ^ 16 }
     {
-        654 + 92 * self.actors.as_slice().len() as u64
+        654 + 118 * self.actors.as_slice().len() as u64
     }
 
     /// Gives where the lane of a thread or a group that is aimed at begins, if there is one.
@@ -123,7 +123,7 @@ fn actor_place(actors: &[u32], actor: u32) -> Option<u64>
         if *known == actor {
             return Some(x);
         }
-        x += 92;
+        x += 118;
     }
     None
 }

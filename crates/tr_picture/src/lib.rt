@@ -5,6 +5,7 @@ mod actors;
 mod calls;
 mod canvas;
 mod cells;
+mod details;
 mod drawing;
 mod elements;
 mod layouts;

@@ -189,7 +189,7 @@ fn push_life_lines(page: &mut Page, y: u64, actors: &[u32]) -> Result<(), AllocE
     let mut x = 640;
     for actor in actors {
         push_life_line(page, x, y, *actor)?;
-        x += 92;
+        x += 118;
     }
     Ok(())
 }

@@ -10,6 +10,7 @@ ghost use Rattle.tr_picture.specs.Rows.{answer_words, is_entry, moved_down, posi
 
 use crate::calls::{aim_of, push_call, push_marks};
 use crate::cells::push_cells;
+use crate::details::push_detail;
 use crate::elements::{push_escaped, push_pieces, push_words};
 use crate::layouts::Layout;
 use crate::styles::Style;
@@ -95,6 +96,7 @@ fn push_row_words(
 {
     push_position(page, entries, answer)?;
     push_call(page, actor, event)?;
+    push_detail(page, event)?;
     push_answer(page, answer)?;
     push_raised(page, raised, raised_after)?;
     Ok(())

@@ -9,6 +9,6 @@ loop-actor-preserved c =
     let i = c.loop-actor.actor-index in
     let x = c.loop-actor.x in
     record {
-      text = next_pushed _ _ _ (actor_heads x (drop i actors)) (actor_head x (get_or actors i 0)) (actor_heads (x + 92) (drop (i + 1) actors)) (ap (actor_heads x) (first_left actors i 0 c.loop-actor-test.true)) c.loop-actor.invariant.text c.in_ok-push_actor_head.ensures;
+      text = next_pushed _ _ _ (actor_heads x (drop i actors)) (actor_head x (get_or actors i 0)) (actor_heads (x + 118) (drop (i + 1) actors)) (ap (actor_heads x) (first_left actors i 0 c.loop-actor-test.true)) c.loop-actor.invariant.text c.in_ok-push_actor_head.ensures;
       x = omega (arith, c.loop-actor.invariant.x);
     }

@@ -6,5 +6,5 @@ use Rattle.tr_picture.proofs.canvas.push_actor_heads.Given as goal
 abbrev pub invariant-loop-actor : goal.invariant-loop-actor
 invariant-loop-actor l = record {
   text : l.page ++ printed (actor_heads l.x (drop l.actor-index l.actors)) ≡ l.fn.page ++ printed (actor_heads 640 l.actors);
-  x : l.x ≡ 640 + 92 * l.actor-index;
+  x : l.x ≡ 640 + 118 * l.actor-index;
 }

@@ -10,6 +10,6 @@ loop-actor-preserved c =
     let x = c.loop-actor.x in
     let y = c.args.y in
     record {
-      text = next_pushed _ _ _ (life_lines x y (drop i actors)) (life_line x y (get_or actors i 0)) (life_lines (x + 92) y (drop (i + 1) actors)) (ap (life_lines x y) (first_left actors i 0 c.loop-actor-test.true)) c.loop-actor.invariant.text c.in_ok-push_life_line.ensures;
+      text = next_pushed _ _ _ (life_lines x y (drop i actors)) (life_line x y (get_or actors i 0)) (life_lines (x + 118) y (drop (i + 1) actors)) (ap (life_lines x y) (first_left actors i 0 c.loop-actor-test.true)) c.loop-actor.invariant.text c.in_ok-push_life_line.ensures;
       x = omega (arith, c.loop-actor.invariant.x);
     }
