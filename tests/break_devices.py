@@ -28,7 +28,7 @@ FAULTS = {
     "a write is interrupted": ("BREAK_WRITE", errno.EINTR),
     "a write takes nothing": ("BREAK_WRITE", 0),
 }
-READERS = ["threads_of_one_actor", "schedules_are_explored", "run_is_explained", "record_agrees", "examples/kill_at_a_stop.json"]
+READERS = ["threads_of_one_actor", "schedules_are_explored", "run_is_explained", "docs/pictures/attach_real_stop.svg", "record_agrees", "examples/kill_at_a_stop.json"]
 SHELL = {
     "reads a directory": ('"$@" < /', 3, b"tracebox: ReadFault\n"),
     "reads what is closed": ('"$@" <&-', 3, b"tracebox: ReadFault\n"),

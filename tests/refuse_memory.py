@@ -6,7 +6,7 @@ usage: refuse_memory.py PROGRAM AGAIN
 Each case of run_programs.py is run with its first allocation refused, then with its second, and so on until none was refused; once
 with that one alone, and once with all after it too. Each run has to end as the case says, or with status 3, `tracebox: NoMemory` on
 standard error, and a front of the text on standard output. The cases of examples/explore are left out: they ask for memory thousands
-of times, in no other places than the case schedules_are_explored.
+of times, in no other places than the case schedules_are_explored; and so are the pictures but that of the example question.
 
 AGAIN is the program of crates/test_refused, which makes a call again that memory was refused to, and looks before that nothing has
 changed. Whichever allocation is refused, it has to print what it prints where none is; and over all runs, memory has to have been
@@ -78,7 +78,7 @@ def main(program, again):
         source = str(TOP / "tests" / "refusing.c")
         subprocess.run(["cc", "-shared", "-fPIC", "-O1", "-o", library, source, "-ldl"], check=True)
         for name, words, given, out, err, status in cases():
-            if name.startswith("examples/explore/"):
+            if name.startswith("examples/explore/") or name.startswith("docs/pictures/") and name != "docs/pictures/question.svg":
                 continue
             for mode in MODES:
                 for number, why in tried(program, library, mode, words, given, out, err, status):

@@ -4,7 +4,8 @@
 usage: run_programs.py PROGRAM
 
 Each folder of tests/programs is a case: `args` has an argument a line, `stdin`, `stdout` and `stderr` have bytes, and `status` a
-number; a file that isn't there is empty, or 0. Each examples/NAME.json is a case of `serial`, which has to write NAME.txt, and each
+number; a file that isn't there is empty, or 0. Each examples/NAME.json is a case of `serial`, which has to write NAME.txt, each
+docs/pictures/NAME.svg one of `draw`, of which it has to be the picture of examples/NAME.json, and each
 examples/records/NAME.json one of `compare`, which ends with 0 where the last line of NAME.txt begins with `agrees`, else with 1, and
 each examples/explore/NAME.json one of `explore`. The last line is 'N passed, M failed'.
 """
@@ -29,6 +30,9 @@ def cases():
     for scenario in sorted((TOP / "examples").glob("*.json")):
         text = scenario.with_suffix(".txt")
         yield f"examples/{scenario.name}", ["serial"], scenario.read_bytes(), text.read_bytes(), b"", 0
+    for picture in sorted((TOP / "docs" / "pictures").glob("*.svg")):
+        scenario = TOP / "examples" / f"{picture.stem}.json"
+        yield f"docs/pictures/{picture.name}", ["draw"], scenario.read_bytes(), picture.read_bytes(), b"", 0
     for record in sorted((TOP / "examples" / "records").glob("*.json")):
         text = record.with_suffix(".txt").read_bytes()
         agrees = text.splitlines()[-1].startswith(b"agrees")

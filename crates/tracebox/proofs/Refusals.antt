@@ -1,14 +1,26 @@
 -- What clap's kinds of error come to.
-use Rattle.std.proofs.Common.{◌≡◌, ◌∙◌, ap, subst, inl, inr, refl, true, List, [], Result, Ok, Err}
-use Rattle.clap.specs.Words.{App, HasKind, Text, fault_of, is_simple_and_free, kind_of}
+use Rattle.std.proofs.Common.{◌≡◌, ◌∙◌, ap, subst, sym, inl, inr, refl, true, List, [], Result, Ok, Err}
+use Rattle.clap.specs.Words.{App, HasKind, HasMatchesOf, Text, fault_of, is_simple, is_simple_and_free, kind_of, subcommand_of, subcommand_rows_of}
+use Rattle.clap.specs.declared.parser.matches.ArgMatches.{ArgMatches}
 use Rattle.clap.specs.declared.error.Error.{Error}
 use Rattle.tracebox.specs.declared.asking.Ask.{Ask}
 use Rattle.tracebox.specs.declared.asking.AskFault.{AskFault}
-use Rattle.tracebox.specs.Asks.{Blames, fault_at}
+use Rattle.tracebox.specs.Asks.{Answers, Blames, asked_by, fault_at}
 use Rattle.tracebox.specs.CommandLine.{tracebox}
 
 pub simple : is_simple_and_free tracebox ≡ true
 simple = refl
+
+simple_alone : is_simple tracebox ≡ true
+simple_alone = refl
+
+told : (words : List Text) (r : Result Ask AskFault) → r ≡ asked_by (subcommand_of tracebox words) → Answers words r
+told words (Ok a) h = sym h
+told words (Err e) h = λ fits. inr (sym h)
+
+pub answered : (words : List Text) (app : App) (m : ArgMatches) (r : Result Ask AskFault) → app ≡ tracebox → HasMatchesOf app words m → r ≡ asked_by (subcommand_rows_of m) → Answers words r
+answered words app m r same has h =
+    told words r (h ∙ ap asked_by ((has (ap is_simple same ∙ simple_alone)).1 ∙ ap (λ (a : App). subcommand_of a words) same))
 
 pub taken : (words : List Text) (r : Result Ask AskFault) → fault_of tracebox words ≡ [] → Blames words r
 taken words (Ok a) h = h

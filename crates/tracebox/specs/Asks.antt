@@ -9,7 +9,7 @@ use Rattle.clap.specs.Words.{IsAmong, Kinds, Row, Text, fault_of, first_of, subc
 use Rattle.clap.specs.declared.error.kind.ErrorKind.{ErrorKind}
 use Rattle.clap.specs.declared.error.kind.ErrorKind.TheVariants as kind
 use Rattle.tracebox.specs.declared.asking.Ask.{Ask}
-use Rattle.tracebox.specs.declared.asking.Ask.TheVariants.{Serial, Threads, Explore, Replay, Explain, Live, Compare, Decode}
+use Rattle.tracebox.specs.declared.asking.Ask.TheVariants.{Serial, Threads, Explore, Replay, Explain, Draw, Live, Compare, Decode}
 use Rattle.tracebox.specs.declared.asking.AskFault.{AskFault}
 use Rattle.tracebox.specs.declared.asking.AskFault.TheVariants.{Help, Usage, NoMemory}
 use Rattle.tracebox.specs.declared.asking.Declined.{Declined}
@@ -75,9 +75,10 @@ named name rows =
     else (if bytes_eq name (codes "threads") then turns_asked (first_of (codes "turns") rows)
     else (if bytes_eq name (codes "explore") then search_asked (first_of (codes "states") rows) (first_of (codes "free") rows) (first_of (codes "end") rows)
     else (if bytes_eq name (codes "explain") then Ok Explain
+    else (if bytes_eq name (codes "draw") then Ok Draw
     else (if bytes_eq name (codes "live") then Ok Live
     else (if bytes_eq name (codes "compare") then Ok Compare
-    else (if bytes_eq name (codes "decode") then word_asked (first_of (codes "WORD") rows) else Err Usage))))))
+    else (if bytes_eq name (codes "decode") then word_asked (first_of (codes "WORD") rows) else Err Usage)))))))
 
 -- the turns of a run by threads, the states of a search and the number of an end are 1 to 100,000,000
 abbrev pub HasCount : Ask → Type 0

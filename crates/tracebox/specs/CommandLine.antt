@@ -48,6 +48,10 @@ explore_app = with_rule free_app end_rule
 abbrev pub explain_app : App
 explain_app = new_app (codes "explain")
 
+-- `draw` has no argument
+abbrev pub draw_app : App
+draw_app = new_app (codes "draw")
+
 -- `live` has no argument
 abbrev pub live_app : App
 live_app = new_app (codes "live")
@@ -72,9 +76,13 @@ runs_app = with_subcommand (with_subcommand bare serial_app.top) threads_app.top
 abbrev pub scenarios_app : App
 scenarios_app = with_subcommand runs_app explore_app.top
 
--- and with the words that explain a run and hold a dialogue
+-- and with the words that explain and draw a run
+abbrev pub drawing_app : App
+drawing_app = with_subcommand (with_subcommand scenarios_app explain_app.top) draw_app.top
+
+-- and with the word that holds a dialogue
 abbrev pub telling_app : App
-telling_app = with_subcommand (with_subcommand scenarios_app explain_app.top) live_app.top
+telling_app = with_subcommand drawing_app live_app.top
 
 -- and with the word that compares a record
 abbrev pub readers_app : App

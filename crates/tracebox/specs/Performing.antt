@@ -13,11 +13,12 @@ use Rattle.tr_scenario.specs.Sources.{Shown}
 use Rattle.tr_scenario.specs.Threaded.{RunsThreaded}
 use Rattle.tr_answers.specs.Compares.{Compares}
 use Rattle.tr_live.specs.Conversations.{Converses}
+use Rattle.tr_picture.specs.Draws.{Draws}
 use Rattle.tr_reasons.specs.Explains.{Explains}
 use Rattle.tr_schedules.specs.Exploring.{Explores}
 use Rattle.tr_schedules.specs.Replaying.{Replays}
 use Rattle.tracebox.specs.declared.asking.Ask.{Ask}
-use Rattle.tracebox.specs.declared.asking.Ask.TheVariants.{Serial, Threads, Explore, Replay, Explain, Live, Compare, Decode}
+use Rattle.tracebox.specs.declared.asking.Ask.TheVariants.{Serial, Threads, Explore, Replay, Explain, Draw, Live, Compare, Decode}
 use Rattle.tracebox.specs.declared.asking.AskFault.{AskFault}
 use Rattle.tracebox.specs.declared.asking.AskFault.TheVariants as asking
 use Rattle.tracebox.specs.declared.faults.Fault.{Fault}
@@ -120,6 +121,7 @@ module _ {R W : Type 0} (shown : R → Shown) (taken : W → List ℕ) (failures
   Does (Ok (Explore free states)) r_old r_new w_old w_new result = (survey : Result Bool ScenarioFault) × Explores (devices r_old w_old) (devices r_new w_new) free states survey × (result ≡ search_result survey)
   Does (Ok (Replay states end)) r_old r_new w_old w_new result = (replay : Result Bool ScenarioFault) × Replays (devices r_old w_old) (devices r_new w_new) states end replay × (result ≡ replay_result replay)
   Does (Ok Explain) r_old r_new w_old w_new result = (run : Result ⊤ ScenarioFault) × Explains (devices r_old w_old) (devices r_new w_new) run × (result ≡ run_result run)
+  Does (Ok Draw) r_old r_new w_old w_new result = (run : Result ⊤ ScenarioFault) × Draws (devices r_old w_old) (devices r_new w_new) run × (result ≡ run_result run)
   Does (Ok Live) r_old r_new w_old w_new result = (talk : Result ⊤ ScenarioFault) × Converses (devices r_old w_old) (devices r_new w_new) talk × (result ≡ run_result talk)
   Does (Ok Compare) r_old r_new w_old w_new result = (comparison : Result Bool ScenarioFault) × Compares (devices r_old w_old) (devices r_new w_new) comparison × (result ≡ comparison_result comparison)
   Does (Ok (Decode w)) r_old r_new w_old w_new result = (r_new ≡ r_old) × ((text : Result ⊤ Fault) × Decodes taken failures w_old w_new w text × (result ≡ text_result text))

@@ -34,6 +34,8 @@ pub enum Ask {
     },
     /// Run it as `Serial`, and tell why each call is answered so.
     Explain,
+    /// Run it as `Serial`, and draw the run.
+    Draw,
     /// Hold a dialogue: answer each line on standard input.
     Live,
     /// Compare the record on standard input with what the model admits.
@@ -63,7 +65,7 @@ pub struct Declined {
 
 /// What the words of a command line ask for, of which the first is the program's name: `serial`; `threads`, with the
 /// turns of each worker, 100,000 where none are given; `explore`, with the most states, 1,000,000 where none are given, and
-/// either free or not, or the number of an end; `explain`; `live`; `compare`; or `decode` and a word of 1 to 8 hexadecimal
+/// either free or not, or the number of an end; `explain`; `draw`; `live`; `compare`; or `decode` and a word of 1 to 8 hexadecimal
 /// digits of either case without a prefix. `Usage` for a word of another form, and for an end of free schedules. Where `clap` doesn't take the words, `Help` if they want help or the version, with that text,
 /// else `Usage`. `NoMemory` where memory is refused, also to that text.
 pub fn asked<'a, S: AsStr>(alloc: Global, words: &'a [S]) -> Result<Ask, Declined>
@@ -151,6 +153,8 @@ fn named_ask(name: &str, matches: &ArgMatches<'_>) -> Result<Ask, AskFault>
         )
     } else if name == "explain" {
         Ok(Ask::Explain)
+    } else if name == "draw" {
+        Ok(Ask::Draw)
     } else if name == "live" {
         Ok(Ask::Live)
     } else if name == "compare" {

@@ -1,7 +1,7 @@
 ghost use Rattle.std.specs.Prelude.{◌≡◌, IfOk, false};
 ghost use Rattle.clap.specs.Words.{app_of};
 ghost use Rattle.clap.specs.declared.builder.command.Command.TheViews.{out-Command as fields_of};
-ghost use Rattle.tracebox.specs.CommandLine.{bounded_app, compare_app, decode_app, explain_app, explore_app, free_app, live_app, readers_app, runs_app, scenarios_app, serial_app, telling_app, threads_app, tracebox};
+ghost use Rattle.tracebox.specs.CommandLine.{bounded_app, compare_app, decode_app, draw_app, drawing_app, explain_app, explore_app, free_app, live_app, readers_app, runs_app, scenarios_app, serial_app, telling_app, threads_app, tracebox};
 
 use clap::builder::ValueParser;
 use clap::{Arg, ArgAction, Command};
@@ -13,8 +13,8 @@ const VERSION: &str = "0.1.0";
 pub(crate) const MOST: u64 = 100_000_000;
 
 const PROGRAM_END: &str =
-    "`serial`, `threads`, `explore` and `explain` read a scenario on standard input, `live` what is said\n\
-in a dialogue, `compare` a record, `decode` nothing but its WORD. All print on standard output. A\n\
+    "`serial`, `threads`, `explore`, `explain` and `draw` read a scenario on standard input, `live` what\n\
+is said in a dialogue, `compare` a record, `decode` nothing but its WORD. All print on standard output. A\n\
 fault goes to standard error, as `tracebox: ` and its name. Exit status: 0 done, also help; 1 the\n\
 input is refused, no status has the word, a run doesn't settle, there are too many states, or an\n\
 answer differs; 2 the command line isn't one of these; 3 memory, the reader or the writer failed.\n\n\
@@ -94,6 +94,17 @@ tracebox explain\n\
 prints the lines of `serial`, and below the first\n  \
   ESRCH: thread 10 isn't traced by the actor; ptrace(2), ERRORS";
 
+const DRAW: &str = "Runs the scenario on standard input as `serial` does, and draws the run.\n\n\
+Prints one SVG: time runs down, with a row for each call and its answer, a lane for each actor, each\n\
+group and each of its threads. A row shows what each does after the call, what waits for it, who\n\
+traces it, and the report that no wait has taken; an arrow shows whom the call is about. Equal calls\n\
+that make no entry share a row. At most 200 rows are drawn, and lanes of 8 actors, 16 groups and 16\n\
+threads; how many more there are is told below. Nothing is printed of an input that is refused.";
+
+const DRAW_END: &str = "Example:\n  \
+tracebox draw < scenario.json > scenario.svg\n\
+writes a picture for a browser, in light colours or in dark ones, as its reader likes.";
+
 const LIVE: &str =
     "Holds a dialogue with a kernel: answers each line on standard input before it reads the next.\n\n\
 A line is one JSON object of at most 65,536 bytes. The first is a scenario of version 1 without\n\
@@ -148,12 +159,19 @@ fn readers_command<'a>(alloc: Global) -> Result<Command<'a>, AllocError>
     telling_command(alloc)?.subcommand(compare_command(alloc))
 }
 
-/// The command line with the words that run a scenario, explore or explain it, or hold a dialogue.
+/// The command line with the words that run a scenario, explore, explain or draw it, or hold a dialogue.
 fn telling_command<'a>(alloc: Global) -> Result<Command<'a>, AllocError>
     ensures { IfOk result (λ c. app_of c ≡ telling_app) }
 {
+    drawing_command(alloc)?.subcommand(live_command(alloc))
+}
+
+/// The command line with the words that run a scenario, explore, explain or draw it.
+fn drawing_command<'a>(alloc: Global) -> Result<Command<'a>, AllocError>
+    ensures { IfOk result (λ c. app_of c ≡ drawing_app) }
+{
     let command = scenarios_command(alloc)?.subcommand(explain_command(alloc))?;
-    command.subcommand(live_command(alloc))
+    command.subcommand(draw_command(alloc))
 }
 
 /// The command line with the words that run a scenario or explore its schedules.
@@ -256,6 +274,16 @@ fn explain_command<'a>(alloc: Global) -> Command<'a>
         .about("Runs the scenario on standard input, and tells why each call is answered so")
         .long_about(EXPLAIN)
         .after_help(EXPLAIN_END)
+}
+
+fn draw_command<'a>(alloc: Global) -> Command<'a>
+    ensures app { app_of result ≡ draw_app }
+    ensures local { (fields_of result).has_globals ≡ false }
+{
+    Command::new(alloc, "draw")
+        .about("Runs the scenario on standard input, and draws the run")
+        .long_about(DRAW)
+        .after_help(DRAW_END)
 }
 
 fn live_command<'a>(alloc: Global) -> Command<'a>

@@ -15,6 +15,7 @@ use std::sync::Wait;
 use std::thread::Threads;
 use tr_answers::compare;
 use tr_live::converse;
+use tr_picture::draw;
 use tr_reasons::explain;
 use tr_scenario::{ScenarioFault, Source, serial, threaded};
 use tr_schedules::{explore_schedules, replay_end};
@@ -132,6 +133,7 @@ fn attempt<T: Threads + Wait + Sync, S: AsStr, R: Source, W: Sink>(
             return Ok(replay_ending(replay_end(alloc, reader, writer, states, end)?));
         }
         Ok(Ask::Explain) => explain(alloc, reader, writer)?,
+        Ok(Ask::Draw) => draw(alloc, reader, writer)?,
         Ok(Ask::Live) => converse(alloc, reader, writer)?,
         Ok(Ask::Compare) => return Ok(ending_of(compare(alloc, reader, writer)?)),
         Ok(Ask::Decode(word)) => write_decoded(word, writer)?,

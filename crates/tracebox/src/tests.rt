@@ -1,6 +1,7 @@
 mod breaking;
 mod command_lines;
 mod devices;
+mod drawn;
 mod explained;
 mod explored;
 mod large_groups;

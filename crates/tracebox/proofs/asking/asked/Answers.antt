@@ -2,7 +2,7 @@ use Rattle.std.proofs.Common.{◌∙◌, ◌≡◌, ap, sym, inl, inr, map, true
 use Rattle.clap.specs.Words.{App, app_of, fault_of, is_simple_and_free, takes}
 use Rattle.tracebox.specs.Asks.{answer_of, fault_at}
 use Rattle.tracebox.specs.CommandLine.{tracebox}
-use Rattle.tracebox.proofs.Refusals.{refused, simple, taken}
+use Rattle.tracebox.proofs.Refusals.{answered, refused, simple, taken}
 use Rattle.tracebox.proofs.asking.asked.Goals as goal
 
 pub returns-in-Ok-try_get_matches_from-clause-blames : goal.returns-in-Ok-try_get_matches_from-clause-blames
@@ -30,3 +30,7 @@ returns-in-Err-clause-blames g c =
       | inl memory ↦ inl memory
       | inr is ↦ refused (app_of c.in-Ok.command) words c.in-Err.error c.declined_by.result.fault same is (c.in-Err.ensures.kinds free)
     ]
+
+pub returns-in-Ok-try_get_matches_from-clause-answers : goal.returns-in-Ok-try_get_matches_from-clause-answers
+returns-in-Ok-try_get_matches_from-clause-answers g c =
+    answered (map g.S.AsStr.text c.args.words.now) _ c.in-Ok-try_get_matches_from.matches (answer_of c.ask_of.result) c.in-Ok.ensures c.in-Ok-try_get_matches_from.ensures.matches c.ask_of.ensures.asked
