@@ -8,8 +8,8 @@ use tr_scenario::{Job, Step};
 use tr_table::Items;
 use tr_workers::Script;
 
-/// Lists the actors of a job that have lanes: of steps those that ask for something, in the order in which they come, of workers
-/// all.
+/// Lists the actors of a job that have lanes: of steps those that ask for something, in the order in which they come, of
+/// workers all.
 pub(crate) fn job_actors(alloc: Global, job: &Job) -> Result<Items<u32>, AllocError>
     ensures { IfOk result (λ actors. actors ≡ job_actors job.now) }
 {

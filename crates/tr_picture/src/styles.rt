@@ -69,7 +69,8 @@ impl Style {
     }
 }
 
-/// Gives the style sheet: for light screens, and then for dark ones. Words have a contrast of 4.5 to 1 or more on each ground.
+/// Gives the style sheet: for light screens, and then for dark ones. Words have a contrast of 4.5 to 1 or more on each
+/// ground.
 #[tactic(auto, unfolding(crate::specs::Styles::style_sheet))]
 pub(crate) fn style_sheet() -> &'static str
     ensures { result.now ≡ style_sheet }
