@@ -11,7 +11,7 @@ const NO_STEP: &str = r#"{"version":1,"limit":4,"entries":9,"groups":[],"steps":
 
 /// A tracer that waits again and again, and a thread that it traces.
 const WORKERS: &str =
-    r#"{"version":2,"limit":4,"entries":9,"groups":[{"tgid":10,"name":"demo","threads":[{"tid":10,"blocked":[]}],"actions":[]}],"workers":[{"actor":900,"script":[{"do":"attach","tid":10},{"do":"wait","tid":0,"until":true}]},{"actor":10,"machine":[{"tid":10,"ops":[]}]}]}"#;
+    r#"{"version":2,"limit":4,"entries":9,"groups":[{"tgid":10,"name":"demo","threads":[{"tid":10,"blocked":[]}],"actions":[]}],"workers":[{"actor":900,"items":[{"do":"attach","tid":10},{"do":"wait","tid":10,"until":true}]},{"actor":10,"items":[{"do":"take","tid":10,"until":true}]}]}"#;
 
 const DRAW: [&str; 2] = ["tracebox", "draw"];
 
@@ -134,7 +134,7 @@ fn the_most_threads_are_drawn(rt: HostRuntime) -> Result<(), Fail> {
     )?;
     let picture = picture(&rt, &input);
     let drawn = text(&picture);
-    same(&rt, &count_of(drawn, ">group "), &16);
+    same(&rt, &count_of(drawn, ">group 1"), &16);
     same(&rt, &count_of(drawn, ">thread "), &16);
     assert!(rt; drawn.contains("without a lane: 1008 threads, 0 groups, 0 actors"));
     Ok(())
