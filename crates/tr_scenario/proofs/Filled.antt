@@ -1,5 +1,5 @@
 -- Texts that come by way of a page, one after the other.
-use Rattle.std.proofs.Common.{◌≡◌, ◌≤◌, ℕ, List, [], ◌++◌, ◌∙◌, ap, sym, refl, inl, Result, Ok, Err, append_assoc, length, length-append, arith}
+use Rattle.std.proofs.Common.{◌≡◌, ◌≤◌, ℕ, List, [], ◌++◌, ◌∙◌, ap, refl, inl, Result, Ok, Err, length, arith}
 use Rattle.tr_status.specs.Writing.{IsFront}
 use Rattle.tr_scenario.specs.declared.faults.ScenarioFault.{ScenarioFault}
 use Rattle.tr_scenario.specs.declared.faults.ScenarioFault.TheVariants.{NoMemory}

@@ -1,5 +1,5 @@
 -- What an observer knows while the calls of a run are made.
-use Rattle.std.proofs.Common.{◌≡◌, ◌∙◌, List, [], ◌∷◌, ◌++◌, ap, sym, refl, Option, None, OnOk, Result, Ok, Err, ℕ, map}
+use Rattle.std.proofs.Common.{◌≡◌, ◌∙◌, List, [], ◌∷◌, ◌++◌, ap, sym, refl, None, OnOk, Result, Ok, Err, ℕ, map}
 use Rattle.tr_model.specs.Runs as runs
 use Rattle.tr_model.specs.Runs.{Call}
 use Rattle.tr_kernel.specs.States.{State}
