@@ -1,5 +1,5 @@
 -- The picture of a run, from its parts.
-use Rattle.std.proofs.Common.{◌≡◌, ◌+◌, ◌∙◌, ℕ, Bool, true, false, if◌then◌else◌, List, [], ◌∷◌, ◌++◌, ap, sym, codes, decimal, length, map, IfOk, OnOk, Result, Ok, Err}
+use Rattle.std.proofs.Common.{◌≡◌, ◌+◌, ◌∙◌, ℕ, true, false, if◌then◌else◌, List, [], ◌∷◌, ◌++◌, ap, sym, codes, decimal, length, map, IfOk, OnOk, Result, Ok, Err}
 use Rattle.std.specs.declared.alloc.AllocError.{AllocError}
 use Rattle.tr_model.specs.declared.fates.Totals.{Totals}
 use Rattle.tr_model.specs.declared.rows.Target.{Target}

@@ -1,10 +1,10 @@
 -- The text of elements, from its parts; and that each tag is closed where it is opened.
-use Rattle.std.proofs.Common.{◌≡◌, ◌∙◌, ℕ, Bool, true, false, if◌then◌else◌, List, [], ◌∷◌, ◌++◌, ap, sym, refl, append_assoc, append-nil, codes, map, Option, Some, None, option_and_then}
+use Rattle.std.proofs.Common.{◌≡◌, ◌∙◌, ℕ, Bool, true, if◌then◌else◌, List, [], ◌∷◌, ◌++◌, ap, sym, refl, append_assoc, append-nil, codes, map, Some, None}
 use Rattle.std.specs.Str.{bytes_eq}
 use Rattle.std.proofs.lemmas.Slice.Eq.{bytes_eq-Decides}
 use Rattle.tr_status.specs.Texts.{texts}
 use Rattle.tr_picture.specs.declared.styles.Style.{Style}
-use Rattle.tr_picture.specs.Elements.{AreBalanced, Attribute, Characters, Close, Elements, Open, Token, after_close, after_token, all, both, escaped, none, pieces, printed, reads, tag, text, token_pieces, tokens, words, words_begin}
+use Rattle.tr_picture.specs.Elements.{AreBalanced, Attribute, Characters, Close, Elements, Open, Token, both, escaped, none, pieces, printed, reads, tag, text, token_pieces, tokens, words, words_begin}
 
 -- Texts
 

@@ -1,5 +1,5 @@
 -- Elements that were pushed one after the other, and drawings from their parts.
-use Rattle.std.proofs.Common.{◌≡◌, ◌≤◌, ◌<◌, ◌+◌, ◌-◌, ◌∙◌, ℕ, zero, suc, Bool, true, false, if◌then◌else◌, nat_lt, List, [], ◌∷◌, ◌++◌, ap, sym, refl, append_assoc, append-nil, length, take, arith, get_or, drop, drop-cons, add-one}
+use Rattle.std.proofs.Common.{◌≡◌, ◌≤◌, ◌<◌, ◌+◌, ◌∙◌, ℕ, zero, suc, List, [], ◌∷◌, ◌++◌, ap, sym, refl, append_assoc, length, take, arith, get_or, drop, drop-cons, add-one}
 use Rattle.tr_picture.specs.Elements.{Elements, all, both, printed}
 use Rattle.tr_picture.proofs.Celled.{pushed_last}
 use Rattle.tr_picture.proofs.Printed.{printed_both, pushed_both}

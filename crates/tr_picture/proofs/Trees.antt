@@ -1,28 +1,24 @@
 -- Each picture is the text of elements.
-use Rattle.std.proofs.Common.{◌≡◌, ◌+◌, ◌*◌, ◌∙◌, ℕ, Bool, true, false, nat_lt, if◌then◌else◌, List, [], ◌∷◌, ◌++◌, ap, sym, refl, append_assoc, append-nil, codes, length, take}
+use Rattle.std.proofs.Common.{◌≡◌, ◌+◌, ◌*◌, ◌∙◌, ℕ, Bool, true, false, nat_lt, if◌then◌else◌, List, [], ◌∷◌, ◌++◌, ap, sym, refl, append_assoc, codes, length, take}
 use Rattle.std.specs.Str.{bytes_eq}
 use Rattle.tr_sigset.specs.declared.sets.SigSet.{SigSet}
-use Rattle.tr_model.specs.declared.replies.Reply.{Reply}
 use Rattle.tr_model.specs.declared.replies.Reply.TheVariants as reply
 use Rattle.tr_model.specs.declared.rows.Target.TheVariants.{Thread}
 use Rattle.tr_model.specs.Runs.{Answer, Call, Entered, Read, Refused, State, begun_at, call}
-use Rattle.tr_model.specs.Tables.{Table}
 use Rattle.tr_table.specs.declared.starts.GroupStart.{GroupStart}
 use Rattle.tr_table.specs.declared.starts.Start.{Start}
 use Rattle.tr_table.specs.Starts.{table_of}
 use Rattle.tr_status.specs.Texts.{texts}
-use Rattle.tr_scenario.specs.declared.scenarios.Scenario.{Scenario}
 use Rattle.tr_scenario.specs.Observers.{observed}
 use Rattle.tr_scenario.specs.RunTexts.{call_text, state_after, unanswered}
 use Rattle.tr_scenario.specs.Serial.{job_calls}
-use Rattle.tr_picture.specs.declared.layouts.Layout.{Layout}
 use Rattle.tr_picture.specs.declared.pictures.Facts.{Facts}
 use Rattle.tr_picture.specs.Actors.{job_actors}
-use Rattle.tr_picture.specs.Drawn.{Drawn, actor_heads, begun, blank, closed, drawn, group_head, is_full, placed, start_row, thread_head, times_note, with_answer, with_answered, with_call, with_elements, with_group, with_groups, with_new_row, with_row, with_thread, with_threads}
+use Rattle.tr_picture.specs.Drawn.{Drawn, actor_heads, begun, blank, closed, drawn, group_head, is_full, placed, start_row, thread_head, times_note, with_answer, with_answered, with_elements, with_group, with_groups, with_row, with_thread, with_threads}
 use Rattle.tr_picture.specs.Draws.{ArePictures}
 use Rattle.tr_picture.specs.Elements.{Elements, Open, both, none, printed, tag, token_pieces}
 use Rattle.tr_picture.specs.Layouts.{has_lane, lanes_right}
-use Rattle.tr_picture.specs.Pictures.{facts, foot, head, height, picture, picture_from, picture_of, svg_attributes, width}
+use Rattle.tr_picture.specs.Pictures.{facts, foot, head, height, picture, picture_of, svg_attributes, width}
 use Rattle.tr_picture.specs.Rows.{moved_down, row_inside}
 use Rattle.tr_picture.proofs.Printed.{printed_both, pushed_tag}
 use Rattle.tr_picture.proofs.Pushed.{three_parts}

@@ -1,7 +1,6 @@
 -- The actors of a job that have lanes: those that ask for something, or that are workers.
 use Rattle.std.specs.Prelude.{ℕ, ◌==◌, List, [], ◌∷◌, ◌++◌, if◌then◌else◌, map}
 use Rattle.std.specs.List.{list_any}
-use Rattle.tr_workers.specs.declared.scripts.Script.{Script}
 use Rattle.tr_scenario.specs.declared.scenarios.Job.{Job}
 use Rattle.tr_scenario.specs.declared.scenarios.Job.TheVariants.{Steps, Workers}
 use Rattle.tr_scenario.specs.declared.steps.Step.{Step}

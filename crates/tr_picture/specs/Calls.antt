@@ -1,11 +1,11 @@
 -- What a call is about, its words, and the marks at its event line.
-use Rattle.std.specs.Prelude.{ℕ, ◌+◌, List, [], ◌∷◌, ◌++◌, Bool, true, false, nat_lt, if◌then◌else◌, codes, decimal, Option, Some, None}
+use Rattle.std.specs.Prelude.{ℕ, ◌+◌, List, [], ◌∷◌, Bool, true, false, nat_lt, if◌then◌else◌, codes, decimal, Option, Some, None}
 use Rattle.tr_model.specs.declared.events.Event.{Event}
 use Rattle.tr_model.specs.declared.events.Event.TheVariants as event
 use Rattle.tr_model.specs.declared.replies.Reply.TheVariants.{Waited}
 use Rattle.tr_model.specs.declared.rows.Target.{Target}
 use Rattle.tr_model.specs.declared.rows.Target.TheVariants as target
-use Rattle.tr_model.specs.Runs.{Answer, Call, Entered, Read, Refused}
+use Rattle.tr_model.specs.Runs.{Answer, Call, Entered, Refused}
 use Rattle.tr_scenario.specs.Kinds.{event_name}
 use Rattle.tr_scenario.specs.Replies.{refusal_text}
 use Rattle.tr_picture.specs.declared.styles.Style.{Style}

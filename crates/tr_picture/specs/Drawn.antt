@@ -3,8 +3,7 @@ use Rattle.std.specs.Prelude.{ℕ, Bool, ◌+◌, ◌*◌, List, [], ◌∷◌, 
 use Rattle.std.specs.Str.{bytes_eq}
 use Rattle.tr_sigset.specs.declared.sets.SigSet.{SigSet}
 use Rattle.tr_model.specs.declared.replies.Reply.TheVariants.{Cloned}
-use Rattle.tr_model.specs.declared.rows.Target.{Target}
-use Rattle.tr_model.specs.declared.rows.Target.TheVariants.{Group, Thread}
+use Rattle.tr_model.specs.declared.rows.Target.TheVariants.{Thread}
 use Rattle.tr_model.specs.Runs.{Answer, Call, Entered, State, call}
 use Rattle.tr_model.specs.Tables.{Table}
 use Rattle.tr_table.specs.declared.starts.GroupStart.{GroupStart}

@@ -1,4 +1,3 @@
-use Rattle.std.proofs.Common.{◌∙◌, ap, sym}
 use Rattle.tr_picture.proofs.Marked.{arrow_pushed}
 use Rattle.tr_picture.proofs.calls.push_arrow.Goals as goal
 

@@ -1,4 +1,3 @@
-use Rattle.std.proofs.Common.{Some, refl}
 use Rattle.tr_workers.specs.Follows.{heard}
 use Rattle.tr_picture.specs.Calls.{arrow_style, chip_words}
 use Rattle.tr_picture.proofs.Marked.{chip_pushed}

@@ -1,4 +1,4 @@
-use Rattle.std.proofs.Common.{◌+◌, ◌*◌, [], ◌∷◌, codes}
+use Rattle.std.proofs.Common.{◌+◌, ◌*◌, codes}
 use Rattle.tr_status.specs.Texts.{texts}
 use Rattle.tr_picture.specs.Elements.{Open, token_pieces}
 use Rattle.tr_picture.specs.Rows.{moved_down}

@@ -1,4 +1,4 @@
-use Rattle.std.proofs.Common.{◌+◌, ◌*◌, ◌≡◌, arith}
+use Rattle.std.proofs.Common.{arith}
 use Rattle.tr_model.specs.declared.rows.Target.TheVariants.{Thread}
 use Rattle.tr_picture.proofs.Celled.{cells_next}
 use Rattle.tr_picture.proofs.cells.push_cells.Goals as goal

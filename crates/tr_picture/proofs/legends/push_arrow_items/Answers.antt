@@ -1,4 +1,4 @@
-use Rattle.std.proofs.Common.{◌≡◌, ◌+◌, ◌*◌, ◌∙◌, ◌++◌, [], ap, append-nil, arith, drop, drop_of_length-le, get_or, map, sym}
+use Rattle.std.proofs.Common.{◌+◌, ◌∙◌, ◌++◌, [], ap, append-nil, arith, drop, drop_of_length-le, get_or, map, sym}
 use Rattle.tr_picture.specs.declared.legends.Meaning.{Meaning}
 use Rattle.tr_picture.specs.declared.styles.Style.TheVariants.{Running}
 use Rattle.tr_picture.specs.Elements.{printed}
