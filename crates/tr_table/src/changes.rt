@@ -129,8 +129,9 @@ impl Table {
         ensures number { result ≡ self.old.table.accepted + 1 }
         ensures last { AllBelow result self.old.table.waiting }
     {
-        self.accepted += 1;
-        self.accepted
+        let number = self.accepted + 1;
+        self.accepted = number;
+        number
     }
 
     /// Accepts a signal that waits for a target.
