@@ -140,7 +140,7 @@ fn the_most_threads_are_drawn(rt: HostRuntime) -> Result<(), Fail> {
     Ok(())
 }
 
-/// Of 203 sends, of which each makes an entry, two hundred have a row; of nine actors eight have a lane.
+/// Of 203 sends, of which eight make no entry, two hundred have a row; of nine actors eight have a lane.
 #[test]
 fn calls_without_a_row_are_counted(rt: HostRuntime) -> Result<(), Fail> {
     let mut steps = String::new(rt.alloc());
