@@ -1,7 +1,7 @@
 -- One more entry in a history.
 use Rattle.std.proofs.Common.{◌≡◌, ℕ, ◌+◌, ◌-◌, ◌≤◌, List, [], ◌∷◌, ◌++◌, length, replicate, Ok, Some, None, Option, refl, sym, ap, ap₂, ◌∙◌, subst, arith, append-nil, append_assoc, ◌⊎◌, inl, inr}
 use Rattle.std.proofs.lemmas.Bool.{cases_eq, leb-true}
-use Rattle.std.specs.Prelude.{IsTrue, IfSome, slice_get, nat_le, Bool, true, false, ◌&&◌, if◌then◌else◌}
+use Rattle.std.specs.Prelude.{IsTrue, IfSome, slice_get, nat_le, Bool, true, false, ◌&&◌, if◌then◌else◌, unwrap_or}
 use Rattle.tr_model.specs.declared.checked.Checked.TheVariants.{Due}
 use Rattle.tr_model.specs.Choices.{Choice}
 use Rattle.tr_model.specs.declared.events.Entry.{Entry}
@@ -13,7 +13,7 @@ use Rattle.tr_model.specs.declared.replies.Reply.{Reply}
 use Rattle.tr_model.specs.Laws.{OneFate}
 use Rattle.tr_model.proofs.Consumed.{consumed_once}
 use Rattle.tr_model.proofs.Tally.{fates_agree}
-use Rattle.tr_model.specs.Journals.{HasFate, consumed_by, fate_of, how_many, or_pending, totals, Replay, ended_as, ended_by, held_numbers, numbers_of, occurs, waiting_numbers}
+use Rattle.tr_model.specs.Journals.{HasFate, consumed_by, fate_of, how_many, totals, Replay, ended_as, ended_by, held_numbers, numbers_of, occurs, waiting_numbers}
 use Rattle.tr_model.specs.Compare.{Permits}
 use Rattle.tr_model.specs.Preferred.{check, preferred}
 use Rattle.tr_model.specs.Steps.{Admits, Step, after, work_of}
@@ -50,7 +50,7 @@ pub has_fate : (k : State) → IsHistory k → (n : ℕ) → IfSome (fate_of (ta
 has_fate k h n = go (nat_le 1 n) refl (nat_le n k.table.accepted) refl
   where
     now : Fate
-    now = or_pending (ended_as (ended_by (table_of k.start) k.journal) n)
+    now = unwrap_or (ended_as (ended_by (table_of k.start) k.journal) n) Pending
 
     go : (a : Bool) → nat_le 1 n ≡ a → (b : Bool) → nat_le n k.table.accepted ≡ b → IfSome (if a && b then Some now else None) (λ f. HasFate (ended_by (table_of k.start) k.journal) k.table n f)
     go true p true q = (fates_agree (table_of k.start) k.table k.journal k.replies (is_start k.start h.good) h.replayed n (leb-true 1 n p) (leb-true n k.table.accepted q)).0
@@ -61,7 +61,7 @@ pub only_fate : (k : State) → IsHistory k → (n : ℕ) → IfSome (fate_of (t
 only_fate k h n = go (nat_le 1 n) refl (nat_le n k.table.accepted) refl
   where
     now : Fate
-    now = or_pending (ended_as (ended_by (table_of k.start) k.journal) n)
+    now = unwrap_or (ended_as (ended_by (table_of k.start) k.journal) n) Pending
 
     go : (a : Bool) → nat_le 1 n ≡ a → (b : Bool) → nat_le n k.table.accepted ≡ b → IfSome (if a && b then Some now else None) (λ f. (g : Fate) → HasFate (ended_by (table_of k.start) k.journal) k.table n g → g ≡ f)
     go true p true q = (fates_agree (table_of k.start) k.table k.journal k.replies (is_start k.start h.good) h.replayed n (leb-true 1 n p) (leb-true n k.table.accepted q)).1

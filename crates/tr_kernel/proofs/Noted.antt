@@ -1,12 +1,12 @@
 -- The fates that a kernel writes down are those of its journal.
-use Rattle.std.proofs.Common.{◌≡◌, ℕ, zero, suc, ◌+◌, ◌-◌, ◌≤◌, ◌<◌, List, [], ◌∷◌, ◌++◌, length, length-append, filter, replicate, Bool, true, false, ◌&&◌, ◌==◌, if◌then◌else◌, Some, None, nat_le, slice_get, get_or, set, refl, sym, ap, ap₂, ◌∙◌, arith, append-nil, append_assoc}
+use Rattle.std.proofs.Common.{◌≡◌, ℕ, zero, suc, ◌+◌, ◌-◌, ◌≤◌, ◌<◌, List, [], ◌∷◌, ◌++◌, length, length-append, filter, replicate, Bool, true, false, ◌&&◌, ◌==◌, if◌then◌else◌, Some, None, nat_le, slice_get, get_or, set, refl, sym, ap, ap₂, ◌∙◌, arith, append-nil, append_assoc, unwrap_or}
 use Rattle.std.proofs.lemmas.Bool.{le-leb, leb-true, leb-false, eq-eqb, ne_eqb, and_from}
 use Rattle.std.proofs.lemmas.List.Elements.{filter-append}
 use Rattle.tr_model.specs.declared.events.Entry.{Entry}
 use Rattle.tr_model.specs.declared.fates.Ending.{Ending}
 use Rattle.tr_model.specs.declared.fates.Fate.{Fate}
 use Rattle.tr_model.specs.declared.fates.Fate.TheVariants.{Pending, Merged, Delivered, Suppressed, Flushed}
-use Rattle.tr_model.specs.Journals.{ended_as, ended_by, fate_of, how_many, counts, numbers_of, occurs, or_pending, same_fate}
+use Rattle.tr_model.specs.Journals.{ended_as, ended_by, fate_of, how_many, counts, numbers_of, occurs, same_fate}
 use Rattle.tr_model.specs.Tables.{Table}
 use Rattle.tr_model.proofs.Kept.{is_pending}
 use Rattle.tr_model.proofs.Live.{AllLive}
@@ -22,16 +22,16 @@ stays Delivered g h = refl
 stays Suppressed g h = refl
 stays Flushed g h = refl
 
-note_one : (E : List Ending) (x : Ending) (n : ℕ) → AllLive E → (if x.number == n then first_of (or_pending (ended_as E n)) x.fate else or_pending (ended_as E n)) ≡ or_pending (ended_as (E ++ x ∷ []) n)
+note_one : (E : List Ending) (x : Ending) (n : ℕ) → AllLive E → (if x.number == n then first_of (unwrap_or (ended_as E n) Pending) x.fate else unwrap_or (ended_as E n) Pending) ≡ unwrap_or (ended_as (E ++ x ∷ []) n) Pending
 note_one [] x n l = go (x.number == n)
   where
-    go : (b : Bool) → (if b then x.fate else Pending) ≡ or_pending (if b then Some x.fate else None)
+    go : (b : Bool) → (if b then x.fate else Pending) ≡ unwrap_or (if b then Some x.fate else None) Pending
     go true = refl
     go false = refl
 note_one (e ∷ es) x n l = go (e.number == n) (x.number == n) (note_one es x n l.1)
   where
-    go : (b c : Bool) → (if c then first_of (or_pending (ended_as es n)) x.fate else or_pending (ended_as es n)) ≡ or_pending (ended_as (es ++ x ∷ []) n)
-        → (if c then first_of (or_pending (if b then Some e.fate else ended_as es n)) x.fate else or_pending (if b then Some e.fate else ended_as es n)) ≡ or_pending (if b then Some e.fate else ended_as (es ++ x ∷ []) n)
+    go : (b c : Bool) → (if c then first_of (unwrap_or (ended_as es n) Pending) x.fate else unwrap_or (ended_as es n) Pending) ≡ unwrap_or (ended_as (es ++ x ∷ []) n) Pending
+        → (if c then first_of (unwrap_or (if b then Some e.fate else ended_as es n) Pending) x.fate else unwrap_or (if b then Some e.fate else ended_as es n) Pending) ≡ unwrap_or (if b then Some e.fate else ended_as (es ++ x ∷ []) n) Pending
     go true true h = stays e.fate x.fate l.0
     go true false h = refl
     go false c h = h
@@ -115,13 +115,13 @@ not_ended (e ∷ es) n h = go (e.number == n) h (not_ended es n)
 
 open_from : (E : List Ending) (n d : ℕ) → ((m : ℕ) → n ≤ m → ended_as E m ≡ None) → replicate d Pending ≡ fates_from E n d
 open_from E n zero h = refl
-open_from E n (suc d) h = ap₂ (λ f fs. f ∷ fs) (ap or_pending (sym (h n (omega arith)))) (open_from E (suc n) d (λ m l. h m (omega arith)))
+open_from E n (suc d) h = ap₂ (λ f fs. f ∷ fs) (ap (λ o. unwrap_or o Pending) (sym (h n (omega arith)))) (open_from E (suc n) d (λ m l. h m (omega arith)))
 
 pub grown : (E : List Ending) (n k d : ℕ) → ((m : ℕ) → n + k ≤ m → ended_as E m ≡ None) → fates_from E n k ++ replicate d Pending ≡ fates_from E n (k + d)
 grown E n zero d h = let e : d ≡ 0 + d = omega arith in open_from E n d (λ m l. h m (omega arith)) ∙ ap (fates_from E n) e
 grown E n (suc k) d h =
     let e : suc (k + d) ≡ suc k + d = omega arith in
-    ap (λ fs. or_pending (ended_as E n) ∷ fs) (grown E (suc n) k d (λ m l. h m (omega arith))) ∙ ap (fates_from E n) e
+    ap (λ fs. unwrap_or (ended_as E n) Pending ∷ fs) (grown E (suc n) k d (λ m l. h m (omega arith))) ∙ ap (fates_from E n) e
 
 pub length_fates : (E : List Ending) (n k : ℕ) → length (fates_from E n k) ≡ k
 length_fates E n zero = refl
@@ -129,10 +129,10 @@ length_fates E n (suc k) = ap suc (length_fates E (suc n) k)
 
 -- One number's
 
-pub fate_within : (E : List Ending) (n k i : ℕ) → i < k → slice_get (fates_from E n k) i ≡ Some (or_pending (ended_as E (n + i)))
+pub fate_within : (E : List Ending) (n k i : ℕ) → i < k → slice_get (fates_from E n k) i ≡ Some (unwrap_or (ended_as E (n + i)) Pending)
 fate_within E n zero i h = absurd (omega arith)
-fate_within E n (suc k) zero h = ap (λ m. Some (or_pending (ended_as E m))) (omega arith)
-fate_within E n (suc k) (suc i) h = fate_within E (suc n) k i (omega arith) ∙ ap (λ m. Some (or_pending (ended_as E m))) (omega arith)
+fate_within E n (suc k) zero h = ap (λ m. Some (unwrap_or (ended_as E m) Pending)) (omega arith)
+fate_within E n (suc k) (suc i) h = fate_within E (suc n) k i (omega arith) ∙ ap (λ m. Some (unwrap_or (ended_as E m) Pending)) (omega arith)
 
 pub fate_past : (E : List Ending) (n k i : ℕ) → k ≤ i → slice_get (fates_from E n k) i ≡ None
 fate_past E n zero i h = refl
@@ -158,17 +158,17 @@ fate_kept T U es n h = go (nat_le n U.accepted) refl
 pub count_append : (f : Fate) (xs ys : List Fate) → count_of f (xs ++ ys) ≡ count_of f xs + count_of f ys
 count_append f xs ys = ap length (filter-append (same_fate f) xs ys) ∙ length-append (filter (same_fate f) xs) (filter (same_fate f) ys)
 
-fates_snoc : (E : List Ending) (n k : ℕ) → fates_from E n (suc k) ≡ fates_from E n k ++ or_pending (ended_as E (n + k)) ∷ []
-fates_snoc E n zero = ap (λ m. or_pending (ended_as E m) ∷ []) (omega arith)
-fates_snoc E n (suc k) = ap (λ fs. or_pending (ended_as E n) ∷ fs) (fates_snoc E (suc n) k ∙ ap (λ m. fates_from E (suc n) k ++ or_pending (ended_as E m) ∷ []) (omega arith))
+fates_snoc : (E : List Ending) (n k : ℕ) → fates_from E n (suc k) ≡ fates_from E n k ++ unwrap_or (ended_as E (n + k)) Pending ∷ []
+fates_snoc E n zero = ap (λ m. unwrap_or (ended_as E m) Pending ∷ []) (omega arith)
+fates_snoc E n (suc k) = ap (λ fs. unwrap_or (ended_as E n) Pending ∷ fs) (fates_snoc E (suc n) k ∙ ap (λ m. fates_from E (suc n) k ++ unwrap_or (ended_as E m) Pending ∷ []) (omega arith))
 
 pub count_is : (T U : Table) (es : List Entry) (f : Fate) (k : ℕ) → k ≤ U.accepted → count_of f (fates_to (ended_by T es) k) ≡ how_many T es U f k
 count_is T U es f zero h = refl
 count_is T U es f (suc k) h =
     let E = ended_by T es in
     let e : 1 + k ≡ suc k = omega arith in
-    ap (count_of f) (fates_snoc E 1 k ∙ ap (λ m. fates_to E k ++ or_pending (ended_as E m) ∷ []) e)
-    ∙ (count_append f (fates_to E k) (or_pending (ended_as E (suc k)) ∷ []) ∙ omega (arith, one, count_is T U es f k (omega arith)))
+    ap (count_of f) (fates_snoc E 1 k ∙ ap (λ m. fates_to E k ++ unwrap_or (ended_as E m) Pending ∷ []) e)
+    ∙ (count_append f (fates_to E k) (unwrap_or (ended_as E (suc k)) Pending ∷ []) ∙ omega (arith, one, count_is T U es f k (omega arith)))
   where
     go : (b : Bool) → b ≡ true → (o : Fate) → length (filter (same_fate f) (o ∷ [])) ≡ counts f (if b then Some o else None)
     go true e o = alone (same_fate f o)
@@ -178,5 +178,5 @@ count_is T U es f (suc k) h =
         alone false = refl
     go false e o = absurd cc
 
-    one : count_of f (or_pending (ended_as (ended_by T es) (suc k)) ∷ []) ≡ counts f (fate_of T es U (suc k))
-    one = go (nat_le 1 (suc k) && nat_le (suc k) U.accepted) (and_from _ _ (le-leb 1 (suc k) (omega arith)) (le-leb (suc k) U.accepted h)) (or_pending (ended_as (ended_by T es) (suc k)))
+    one : count_of f (unwrap_or (ended_as (ended_by T es) (suc k)) Pending ∷ []) ≡ counts f (fate_of T es U (suc k))
+    one = go (nat_le 1 (suc k) && nat_le (suc k) U.accepted) (and_from _ _ (le-leb 1 (suc k) (omega arith)) (le-leb (suc k) U.accepted h)) (unwrap_or (ended_as (ended_by T es) (suc k)) Pending)

@@ -26,7 +26,7 @@ use Rattle.tr_model.specs.Steps.{Admits, is_new, takes}
 use Rattle.tr_model.specs.Choices.{gives_id, gives_report, takes_by, takes_instance}
 use Rattle.tr_model.specs.Tables.{Table, has_traced, members, thread_of}
 use Rattle.tr_model.specs.Takes.{can_take, choices, is_empty, with_number}
-use Rattle.tr_model.specs.StarterWaits.{death_number, has_death, led_groups, note_number, note_wanted, ready_death, ready_for_starter, ready_note, ready_of_group, shows_note, with_death, with_note}
+use Rattle.tr_model.specs.StarterWaits.{death_number, has_death, led_groups, note_number, note_wanted, ready_death, ready_for_starter, ready_note, ready_of_group, shows_note, with_death, group_with_note}
 use Rattle.tr_model.specs.Waits.{asked_tracees, has_report, ready, ready_thread, report_number, with_report}
 use Rattle.tr_model.proofs.Among.{Among, among_filter, among_flat, any_among, empty_left, empty_right, filter_among, find_among, first_of_flat, found_by_id, some_found}
 use Rattle.tr_model.proofs.FreeIds.{new_id_is_new}
@@ -92,11 +92,11 @@ reporter_among (x ∷ ts) r t e = go (has_report r x.report) refl (reporter_amon
     go true h rest f = let same : x ≡ t = cc in (inl (sym same), subst (Reporter r) same h)
     go false h rest f = let k = rest f in (inr k.0, k.1)
 
-pub noter_among : (gs : List Group) (r : ℕ) (g : Group) → with_note gs r ≡ Some g → Among g gs × (has_report r g.note ≡ true)
+pub noter_among : (gs : List Group) (r : ℕ) (g : Group) → group_with_note gs r ≡ Some g → Among g gs × (has_report r g.note ≡ true)
 noter_among [] r g e = cc
 noter_among (x ∷ gs) r g e = go (has_report r x.note) refl (noter_among gs r g) e
   where
-    go : (b : Bool) → has_report r x.note ≡ b → (with_note gs r ≡ Some g → Among g gs × (has_report r g.note ≡ true)) → (if b then Some x else with_note gs r) ≡ Some g → Among g (x ∷ gs) × (has_report r g.note ≡ true)
+    go : (b : Bool) → has_report r x.note ≡ b → (group_with_note gs r ≡ Some g → Among g gs × (has_report r g.note ≡ true)) → (if b then Some x else group_with_note gs r) ≡ Some g → Among g (x ∷ gs) × (has_report r g.note ≡ true)
     go true h rest f = let same : x ≡ g = cc in (inl (sym same), subst (λ z. has_report r z.note ≡ true) same h)
     go false h rest f = let k = rest f in (inr k.0, k.1)
 
@@ -224,10 +224,10 @@ reporter_found [] r t m h = absurd m
 reporter_found (x ∷ ts) r t (inl e) h = rw (subst (Reporter r) e h) refl
 reporter_found (x ∷ ts) r t (inr m) h = elim (has_report r x.report) as (λ b. is_some (if b then Some x else with_report ts r) ≡ true) [ true ↦ refl | false ↦ reporter_found ts r t m h ]
 
-noter_found : (gs : List Group) (r : ℕ) (g : Group) → Among g gs → has_report r g.note ≡ true → is_some (with_note gs r) ≡ true
+noter_found : (gs : List Group) (r : ℕ) (g : Group) → Among g gs → has_report r g.note ≡ true → is_some (group_with_note gs r) ≡ true
 noter_found [] r g m h = absurd m
 noter_found (x ∷ gs) r g (inl e) h = rw (subst (λ z. has_report r z.note ≡ true) e h) refl
-noter_found (x ∷ gs) r g (inr m) h = elim (has_report r x.note) as (λ b. is_some (if b then Some x else with_note gs r) ≡ true) [ true ↦ refl | false ↦ noter_found gs r g m h ]
+noter_found (x ∷ gs) r g (inr m) h = elim (has_report r x.note) as (λ b. is_some (if b then Some x else group_with_note gs r) ≡ true) [ true ↦ refl | false ↦ noter_found gs r g m h ]
 
 wait_admitted : (T : Table) (a : ℕ) (which : Which) → is_empty (ready T a which) ≡ false → (r : ℕ) × (reporting (ready T a which) ≡ gives_report r) × (is_some (ready_thread T a which r) ≡ true)
 wait_admitted T a which e =

@@ -1,6 +1,6 @@
 -- What an entry costs: signals that it accepts, reports that it raises, threads that it adds, deaths of groups that it
 -- begins, and an id that passes to another thread.
-use Rattle.std.proofs.Common.{◌≡◌, ℕ, suc, ◌+◌, ◌<◌, ◌≤◌, List, [], ◌∷◌, ◌++◌, length, true, false, Some, None, Option, refl, sym, subst, Bool, not, ◌&&◌, ◌==◌, if◌then◌else◌, map, arith, length-append, ◌*◌, ◌∙◌}
+use Rattle.std.proofs.Common.{◌≡◌, ℕ, suc, ◌+◌, ◌<◌, ◌≤◌, List, [], ◌∷◌, ◌++◌, length, true, false, Some, None, Option, refl, sym, subst, Bool, not, ◌&&◌, ◌==◌, if◌then◌else◌, map, arith, length-append, ◌*◌, ◌∙◌, unwrap_or}
 use Rattle.std.proofs.Math.Nat.{suc-mul}
 use Rattle.std.proofs.lemmas.Bool.{eq-eqb, leb-false, or_parts}
 use Rattle.std.proofs.lemmas.List.{length-map}
@@ -95,7 +95,7 @@ settles w =
 deaths : (g : ℕ) (e : End) (kill : Bool) (w : Work) → Bound (cost 0 0 0 1) w (Deaths.begin_death g e kill w)
 deaths g e kill w =
     let v = Moves.regroup (Moves.only_group g (Deaths.dying_with e)) w in
-    let p = becomes Flushed (Threads.at_group g (TraceeEnds.begun_to_leave kill (Deaths.first_end (Tables.group_end w.table g) e))) v in
+    let p = becomes Flushed (Threads.at_group g (TraceeEnds.begun_to_leave kill (unwrap_or (Tables.group_end w.table g) e))) v in
     after_still w v _ (regroups _ w) (record {
       accepted_grows = p.accepted_grows;
       accepts = p.accepts;

@@ -1,4 +1,5 @@
 -- What a wait consumes stood in the table, was raised for the one that waits, and is consumed once.
+use Rattle.std.specs.Prelude.{option_to_list}
 use Rattle.std.proofs.Common.{◌≡◌, ℕ, zero, suc, ◌+◌, ◌<◌, ◌≤◌, List, [], ◌∷◌, ◌++◌, true, false, Some, None, Option, refl, sym, ap, ◌∙◌, map, filter, Bool, not, ◌&&◌, ◌||◌, ◌==◌, ◌⊎◌, inl, inr, if◌then◌else◌, is_some, arith, cond, true≢false, append-nil, append_assoc, subst}
 use Rattle.std.proofs.lemmas.Bool.{eqb-true, and_parts, and_from, cases_eq, ne_eqb, eq-eqb}
 use Rattle.std.proofs.lemmas.Option.{none-some, same_Some}
@@ -146,11 +147,11 @@ abbrev MemberGroup : Group → List Group → Type 0
 MemberGroup g [] = ⊥
 MemberGroup g (x ∷ xs) = (x ≡ g) ⊎ MemberGroup g xs
 
-pub found_note : (r : ℕ) (g : Group) (gs : List Group) → StarterWaits.with_note gs r ≡ Some g → MemberGroup g gs × (Waits.has_report r g.note ≡ true)
+pub found_note : (r : ℕ) (g : Group) (gs : List Group) → StarterWaits.group_with_note gs r ≡ Some g → MemberGroup g gs × (Waits.has_report r g.note ≡ true)
 found_note r g [] e = absurd (none-some g e)
 found_note r g (x ∷ gs) e = go (Waits.has_report r x.note) refl e (found_note r g gs)
   where
-    go : (b : Bool) → Waits.has_report r x.note ≡ b → (if b then Some x else StarterWaits.with_note gs r) ≡ Some g → (StarterWaits.with_note gs r ≡ Some g → MemberGroup g gs × (Waits.has_report r g.note ≡ true))
+    go : (b : Bool) → Waits.has_report r x.note ≡ b → (if b then Some x else StarterWaits.group_with_note gs r) ≡ Some g → (StarterWaits.group_with_note gs r ≡ Some g → MemberGroup g gs × (Waits.has_report r g.note ≡ true))
         → ((x ≡ g) ⊎ MemberGroup g gs) × (Waits.has_report r g.note ≡ true)
     go true h q ih = let e = same_Some x g q in (inl e, ap (λ (y : Group). Waits.has_report r y.note) (sym e) ∙ h)
     go false h q ih = (inr (ih q).0, (ih q).1)
@@ -248,10 +249,10 @@ any_reported before taken T a e c h p = always-kept (Reported before taken) (mov
 
 event_reported : (before : List Raise) (taken : List ℕ) (T : Table) (a : ℕ) (e : Event) (c : Choice) → Reported before taken (Moves.begin T) → Steps.Admits T a e c → Reported before (taken ++ Journals.consumed_of e c) (GroupStops.complete_group_stops (Steps.work_of_event a e c (Moves.begin T)))
 event_reported before taken T a (event.Wait which) c p h =
-    subst (λ d. Reported before (taken ++ Journals.chosen d.report) (GroupStops.complete_group_stops (Steps.work_of_event a (event.Wait which) d (Moves.begin T)))) (sym h.1)
+    subst (λ d. Reported before (taken ++ option_to_list d.report) (GroupStops.complete_group_stops (Steps.work_of_event a (event.Wait which) d (Moves.begin T)))) (sym h.1)
     (settle-kept any any_of (Reported before (taken ++ h.0 ∷ [])) (moves-reported before (taken ++ h.0 ∷ [])) _ (by_wait before taken a which h.0 (Moves.begin T) p h.2))
 event_reported before taken T a (event.StarterWait which flags) c p h =
-    subst (λ d. Reported before (taken ++ Journals.chosen d.report) (GroupStops.complete_group_stops (Steps.work_of_event a (event.StarterWait which flags) d (Moves.begin T)))) (sym h.1)
+    subst (λ d. Reported before (taken ++ option_to_list d.report) (GroupStops.complete_group_stops (Steps.work_of_event a (event.StarterWait which flags) d (Moves.begin T)))) (sym h.1)
     (settle-kept any any_of (Reported before (taken ++ h.0 ∷ [])) (moves-reported before (taken ++ h.0 ∷ [])) _ (by_starter before taken which flags h.0 (Moves.begin T) p h.2))
 event_reported before taken T a e c p h = rw append-nil (any_reported before taken T a e c h p)
 
@@ -325,7 +326,7 @@ untraced_whom None h = refl
 untraced_whom (Some r) h = absurd (true≢false (sym h))
 
 event_raised : (raised : List Raise) (taken : List ℕ) (T : Table) (a : ℕ) (e : Event) (c : Choice) → Standing T raised taken → Steps.Admits T a e c → (r : ℕ) → IsIn r (Journals.consumed_of e c) → WasRaised r (Journals.consumer_of a e) raised
-event_raised raised taken T a (event.Wait which) c s h r i = go (some_found _ h.2) (subst (λ d. IsIn r (Journals.chosen d.report)) h.1 i)
+event_raised raised taken T a (event.Wait which) c s h r i = go (some_found _ h.2) (subst (λ d. IsIn r (option_to_list d.report)) h.1 i)
   where
     go : ((t : Thread) × (Waits.ready_thread T a which h.0 ≡ Some t)) → IsIn r (h.0 ∷ []) → WasRaised r (Some a) raised
     go x (inr n) = absurd n
@@ -334,7 +335,7 @@ event_raised raised taken T a (event.Wait which) c s h r i = go (some_found _ h.
         let m = member_filter _ x.0 T.threads (member_filter _ x.0 (Tracers.tracees T a) f.0).0 in
         let w = owned_number raised h.0 x.0.report (Threads.tracer_of x.0.trace) (each_member (Owned raised) x.0 T.threads s.threads m.0) f.1 in
         subst (λ k. WasRaised k (Some a) raised) e (subst (λ whom. WasRaised h.0 whom raised) (tracer_is a x.0.trace m.1) w)
-event_raised raised taken T a (event.StarterWait which flags) c s h r i = go (StarterWaits.ready_death T which h.0) (StarterWaits.ready_note T which flags h.0) refl refl h.2 (subst (λ d. IsIn r (Journals.chosen d.report)) h.1 i)
+event_raised raised taken T a (event.StarterWait which flags) c s h r i = go (StarterWaits.ready_death T which h.0) (StarterWaits.ready_note T which flags h.0) refl refl h.2 (subst (λ d. IsIn r (option_to_list d.report)) h.1 i)
   where
     go : (o : Option Thread) (n : Option Group) → StarterWaits.ready_death T which h.0 ≡ o → StarterWaits.ready_note T which flags h.0 ≡ n → (is_some o || is_some n) ≡ true → IsIn r (h.0 ∷ []) → WasRaised r None raised
     go o n e f q (inr z) = absurd z

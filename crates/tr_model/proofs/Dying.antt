@@ -1,5 +1,5 @@
 -- After a KILL only dying threads are left.
-use Rattle.std.proofs.Common.{◌≡◌, ℕ, List, [], ◌∷◌, ◌++◌, true, false, Some, None, Option, refl, sym, ◌∙◌, map, Bool, not, ◌&&◌, ◌==◌, ◌⊎◌, inl, inr, if◌then◌else◌, true≢false, append-nil, append_assoc, subst}
+use Rattle.std.proofs.Common.{◌≡◌, ℕ, List, [], ◌∷◌, ◌++◌, true, false, Some, None, Option, refl, sym, ◌∙◌, map, Bool, not, ◌&&◌, ◌==◌, ◌⊎◌, inl, inr, if◌then◌else◌, true≢false, append-nil, append_assoc, subst, unwrap_or}
 use Rattle.std.proofs.lemmas.Bool.{eqb-false, and_parts}
 use Rattle.tr_pending.specs.declared.instance.Instance.{Instance}
 use Rattle.tr_tracee.specs.declared.life.Life.{Life}
@@ -144,20 +144,20 @@ module _ (before : List ℕ) where
 
   broken-dying : (g : ℕ) (s : End) (kill : Bool) (w : Work) → Dying before w → Dying before (Deaths.begin_death g s kill w)
   broken-dying g s kill w d =
-      let now = Deaths.first_end (Tables.group_end w.table g) s in
+      let now = unwrap_or (Tables.group_end w.table g) s in
       record { told = λ h i. alter-dying (Threads.at_group g (TraceeEnds.begun_to_leave kill now)) (calm_throughout g (TraceeEnds.begun_to_leave kill now) (calm_broken kill now)) w.table.threads h (d.told h i) }
 
   kill-dying : (g : ℕ) (w : Work) → Dying before w → Dying before (Deaths.kill_group g w)
   kill-dying g w d = record { told = λ h i. go h (is_in-append h (before ++ w.killed) (g ∷ []) (subst (IsIn h) (sym (append_assoc before w.killed (g ∷ []))) i)) }
     where
       now : End
-      now = Deaths.first_end (Tables.group_end w.table g) (ending.Killed 9)
+      now = unwrap_or (Tables.group_end w.table g) (ending.Killed 9)
 
       go : (h : ℕ) → IsIn h (before ++ w.killed) ⊎ IsIn h (g ∷ []) → Each (Told h) (Deaths.kill_group g w).table.threads
       go h (inl i) = alter-dying (Threads.at_group g (TraceeEnds.begun_to_leave true _)) (calm_throughout g (TraceeEnds.begun_to_leave true _) (calm_broken true _)) w.table.threads h (d.told h i)
       go h (inr (inl e)) = subst (λ x. Each (Told x) (Deaths.kill_group g w).table.threads) e (all_told w.table.threads)
         where
-          all_told : (ts : List Thread) → Each (Told g) (map (Threads.at_group g (TraceeEnds.begun_to_leave true (Deaths.first_end (Tables.group_end w.table g) (ending.Killed 9)))) ts)
+          all_told : (ts : List Thread) → Each (Told g) (map (Threads.at_group g (TraceeEnds.begun_to_leave true (unwrap_or (Tables.group_end w.table g) (ending.Killed 9)))) ts)
           all_told [] = tt
           all_told (t ∷ ts) = (killed_told g _ t, all_told ts)
       go h (inr (inr n)) = absurd n

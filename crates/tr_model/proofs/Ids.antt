@@ -1,5 +1,5 @@
 -- No two threads have one id.
-use Rattle.std.proofs.Common.{◌≡◌, ℕ, ◌+◌, ◌≤◌, List, [], ◌∷◌, ◌++◌, true, false, Some, None, Option, refl, sym, ap, ◌∙◌, Bool, not, ◌&&◌, ◌==◌, ◌⊎◌, inl, inr, if◌then◌else◌, arith}
+use Rattle.std.proofs.Common.{◌≡◌, ℕ, ◌+◌, ◌≤◌, List, [], ◌∷◌, ◌++◌, true, false, Some, None, Option, refl, sym, ap, ◌∙◌, Bool, not, ◌&&◌, ◌==◌, ◌⊎◌, inl, inr, if◌then◌else◌, arith, unwrap_or}
 use Rattle.std.proofs.lemmas.Bool.{eqb-true, and_parts, cases_eq, ne_eqb, eq-eqb}
 use Rattle.std.proofs.lemmas.Option.{none-some}
 use Rattle.tr_pending.specs.declared.instance.Instance.{Instance}
@@ -107,7 +107,7 @@ placed-distinct t w e d = go (Lives.is_execing t.life && not (t.id == t.group))
 
 death-distinct : (g : ℕ) (s : End) (kill : Bool) (w : Work) → Distinct w → Distinct (Deaths.begin_death g s kill w)
 death-distinct g s kill w d =
-    let now = Deaths.first_end (Tables.group_end w.table g) s in
+    let now = unwrap_or (Tables.group_end w.table g) s in
     as_it_was (Moves.alter (Threads.at_group g (TraceeEnds.begun_to_leave kill now)) w) (Deaths.begin_death g s kill w) refl (map-distinct (Threads.at_group g (TraceeEnds.begun_to_leave kill now)) (calm_throughout g (TraceeEnds.begun_to_leave kill now) (calm_broken kill now)) w d)
 
 pub moves-distinct : Kept any any_of Distinct

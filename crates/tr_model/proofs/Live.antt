@@ -1,5 +1,5 @@
 -- What an entry ended isn't pending.
-use Rattle.std.proofs.Common.{◌≡◌, ℕ, List, [], ◌∷◌, ◌++◌, true, false, Some, None, Option, refl, sym, subst, ap, ◌∙◌, Bool, ◌==◌, if◌then◌else◌, map, filter, true≢false}
+use Rattle.std.proofs.Common.{◌≡◌, ℕ, List, [], ◌∷◌, ◌++◌, true, false, Some, None, Option, refl, sym, subst, ap, ◌∙◌, Bool, ◌==◌, if◌then◌else◌, map, filter, true≢false, unwrap_or}
 use Rattle.std.specs.Prelude.{flat_map}
 use Rattle.std.proofs.lemmas.Option.{same_Some}
 use Rattle.tr_pending.specs.declared.instance.Instance.{Instance}
@@ -80,7 +80,7 @@ hold_same : (id n : ℕ) (w : Work) → (Moves.hold id n w).ended ≡ w.ended
 hold_same id n w = at_same id (λ t v. Moves.on_instance (Moves.instance_in w.table.waiting n) (Moves.holding t) v) (λ t v. held_same t (Moves.instance_in w.table.waiting n) v) w
 
 death_live : (g : ℕ) (e : End) (kill : Bool) (w : Work) → Live w → Live (Deaths.begin_death g e kill w)
-death_live g e kill w l = let f = Threads.at_group g (TraceeEnds.begun_to_leave kill (Deaths.first_end (group_end w.table g) e)) in more_live w (Deaths.begin_death g e kill w) (flat_map (Moves.ended_by_change Flushed f) w.table.threads) refl (ends_live Flushed refl f w.table.threads) l
+death_live g e kill w l = let f = Threads.at_group g (TraceeEnds.begun_to_leave kill (unwrap_or (group_end w.table g) e)) in more_live w (Deaths.begin_death g e kill w) (flat_map (Moves.ended_by_change Flushed f) w.table.threads) refl (ends_live Flushed refl f w.table.threads) l
 
 moves_live : Kept any any_of Live
 moves_live = record {

@@ -1,5 +1,5 @@
 -- Each accepted number waits, is held, or was ended: once.
-use Rattle.std.proofs.Common.{◌≡◌, ℕ, zero, suc, ◌+◌, ◌<◌, ◌≤◌, List, [], ◌∷◌, ◌++◌, true, false, Some, None, Option, refl, sym, ap, ◌∙◌, map, flat_map, filter, Bool, not, ◌&&◌, ◌==◌, ◌⊎◌, inl, inr, if◌then◌else◌, arith, cond, true≢false, add-one, append-nil, append_assoc, subst, ⊎_elim}
+use Rattle.std.proofs.Common.{◌≡◌, ℕ, zero, suc, ◌+◌, ◌<◌, ◌≤◌, List, [], ◌∷◌, ◌++◌, true, false, Some, None, Option, refl, sym, ap, ◌∙◌, map, flat_map, filter, Bool, not, ◌&&◌, ◌==◌, ◌⊎◌, inl, inr, if◌then◌else◌, arith, cond, true≢false, add-one, append-nil, append_assoc, subst, ⊎_elim, unwrap_or}
 use Rattle.std.proofs.lemmas.Bool.{cases_lt, eqb-true, and_parts, cases_eq, ne_eqb, eq-eqb}
 use Rattle.std.proofs.lemmas.Option.{none-some, same_Some}
 use Rattle.tr_pending.specs.declared.instance.Instance.{Instance}
@@ -103,9 +103,9 @@ in_places n t h (x ∷ ts) = go (x.id == t.group && Lives.is_dead x.life) refl (
     go true e ih = omega (arith, ih, zero_of n _ (dead_holds x.life (and_parts _ _ e).1), zero_of n _ h)
     go false e ih = omega (arith, ih)
 
-reaimed_waits : (n from to : ℕ) (qs : List Waiting) → waits n (map (Moves.retargeted from to) qs) ≡ waits n qs
-reaimed_waits n from to [] = refl
-reaimed_waits n from to (q ∷ qs) = omega (arith, reaimed_waits n from to qs)
+retargeted_waits : (n from to : ℕ) (qs : List Waiting) → waits n (map (Moves.retargeted from to) qs) ≡ waits n qs
+retargeted_waits n from to [] = refl
+retargeted_waits n from to (q ∷ qs) = omega (arith, retargeted_waits n from to qs)
 
 ended_waits : (n : ℕ) (fate : Fate) (p : Waiting → Bool) (qs : List Waiting) → waits n (filter (λ q. not (p q)) qs) + gone n (map (Moves.ending_of fate) (filter p qs)) ≡ waits n qs
 ended_waits n fate p [] = refl
@@ -151,7 +151,7 @@ module _ (before : List Ending) where
 
   begin_death-balanced : (g : ℕ) (s : End) (kill : Bool) (w : Work) → Balanced before w → Balanced before (Deaths.begin_death g s kill w)
   begin_death-balanced g s kill w b =
-      let now = Deaths.first_end (Tables.group_end w.table g) s in
+      let now = unwrap_or (Tables.group_end w.table g) s in
       record { at = (become-balanced Flushed (Threads.at_group g (TraceeEnds.begun_to_leave kill now)) (calm_throughout g (TraceeEnds.begun_to_leave kill now) (calm_broken kill now)) (Moves.regroup (Moves.only_group g (Deaths.dying_with s)) w) (record { at = b.at })).at }
 
   same_thread : (id : ℕ) (t : Thread) (w : Work) → Tables.thread_of w.table id ≡ Some t → Tables.thread_in w.table.threads t.id ≡ Some t
@@ -235,7 +235,7 @@ module _ (before : List Ending) where
       places : (t : Thread) → Tables.thread_of w.table id ≡ Some t → (p : Bool) → (Lives.is_execing t.life && not (t.id == t.group)) ≡ p → Balanced before (if p then Moves.with_leaders_row t w else w)
       places t e true p =
           let h = execing_holds t.life (and_parts _ _ p).0 in
-          record { at = λ n. omega (arith, b.at n, in_places n t h (Moves.dropped t.id w.table.threads), total_dropped (holds n) t.id t w.table.threads (same_thread id t w e), zero_of n _ h, reaimed_waits n t.id t.group w.table.waiting) }
+          record { at = λ n. omega (arith, b.at n, in_places n t h (Moves.dropped t.id w.table.threads), total_dropped (holds n) t.id t w.table.threads (same_thread id t w e), zero_of n _ h, retargeted_waits n t.id t.group w.table.waiting) }
       places t e false p = b
 
       go : (o : Option Thread) → Tables.thread_of w.table id ≡ o → Balanced before (Moves.on_thread o Moves.taking_place w)

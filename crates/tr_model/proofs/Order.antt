@@ -166,9 +166,9 @@ aimed_thread from to k (target.Thread id) n e = go (id == from) e
     go true q = absurd (n (same q))
     go false q = q
 
-reaimed_after : (q : Target) (s n from to : ℕ) → ((r : Target) → Moves.retarget from to r ≡ q → r ≡ q) → (ws : List Waiting) → AllAfter q s n ws → AllAfter q s n (map (Moves.retargeted from to) ws)
-reaimed_after q s n from to back [] h = tt
-reaimed_after q s n from to back (x ∷ ws) h = ((λ e k. h.0 (back x.target e) k), reaimed_after q s n from to back ws h.1)
+retargeted_after : (q : Target) (s n from to : ℕ) → ((r : Target) → Moves.retarget from to r ≡ q → r ≡ q) → (ws : List Waiting) → AllAfter q s n ws → AllAfter q s n (map (Moves.retargeted from to) ws)
+retargeted_after q s n from to back [] h = tt
+retargeted_after q s n from to back (x ∷ ws) h = ((λ e k. h.0 (back x.target e) k), retargeted_after q s n from to back ws h.1)
 
 passes_more : (q : Target) (xs ys : List ℕ) → PassesOn q xs → PassesOn q (xs ++ ys)
 passes_more (target.Group g) xs ys h = h
@@ -233,11 +233,11 @@ module _ (q : Target) (s n : ℕ) (before : List ℕ) where
 
       to_thread : (k : ℕ) → q ≡ target.Thread k → AllAfter q s n w.table.waiting → (t.group ≡ k) ⊎ (t.group ≡ k → ⊥) → PassesOn q (before ++ (w.renamed ++ t.group ∷ [])) ⊎ AllAfter q s n (map (Moves.retargeted t.id t.group) w.table.waiting)
       to_thread k e h (inl g) = inl (subst (λ r. PassesOn r (before ++ (w.renamed ++ t.group ∷ []))) (sym (e ∙ ap target.Thread (sym g))) (subst (IsIn t.group) (append_assoc before w.renamed (t.group ∷ [])) (is_in-last t.group (before ++ w.renamed))))
-      to_thread k e h (inr differ) = inr (reaimed_after q s n t.id t.group (λ r x. aimed_thread t.id t.group k r differ (x ∙ e) ∙ sym e) w.table.waiting h)
+      to_thread k e h (inr differ) = inr (retargeted_after q s n t.id t.group (λ r x. aimed_thread t.id t.group k r differ (x ∙ e) ∙ sym e) w.table.waiting h)
 
       by_target : (r : Target) → q ≡ r → AllAfter q s n w.table.waiting → PassesOn q (before ++ (w.renamed ++ t.group ∷ [])) ⊎ AllAfter q s n (map (Moves.retargeted t.id t.group) w.table.waiting)
       by_target (target.Thread k) e h = to_thread k e h (cases_eq t.group k)
-      by_target (target.Group g) e h = inr (reaimed_after q s n t.id t.group (λ r x. aimed_group t.id t.group g r (x ∙ e) ∙ sym e) w.table.waiting h)
+      by_target (target.Group g) e h = inr (retargeted_after q s n t.id t.group (λ r x. aimed_group t.id t.group g r (x ∙ e) ∙ sym e) w.table.waiting h)
 
       go : (b : Bool) → Later (if b then Moves.with_leaders_row t w else w)
       go true = record { born = l.born; order = ⊎_elim (λ p. inl (more p)) (by_target q refl) l.order }

@@ -23,7 +23,7 @@ use Rattle.tr_model.specs.Moves as moves
 use Rattle.tr_model.specs.Moves.{at, begin, instance_in, next_instance, on_instance, on_thread, Work}
 use Rattle.tr_model.proofs.Between.{replay_keeps}
 use Rattle.tr_model.proofs.Kept.{Kept, always-kept, any, any_of}
-use Rattle.tr_model.proofs.Sorted.{sorted_filter, sorted_less, sorted_more, sorted_reaimed, up_to_filter, up_to_later, up_to_less, up_to_more, up_to_reaimed}
+use Rattle.tr_model.proofs.Sorted.{sorted_filter, sorted_less, sorted_more, sorted_retargeted, up_to_filter, up_to_later, up_to_less, up_to_more, up_to_retargeted}
 
 -- what waits stands in order of acceptance, and was accepted
 pub record Ordered (w : Work) : Type 0 where
@@ -120,7 +120,7 @@ pub hold_ordered : (id n : ℕ) (w : Work) → Ordered w → Ordered (moves.hold
 hold_ordered id n w p = of_thread (λ t. on_instance (instance_in w.table.waiting n) (moves.holding t)) (λ t x q. of_instance (moves.holding t) (λ i y r. either _ _ _ (entering_ordered _ t _ (pulled_ordered i y r)) r) (instance_in w.table.waiting n) x q) (thread_of w.table id) w p
 
 placed_ordered : (t : Thread) (w : Work) → Ordered w → Ordered (moves.with_leaders_row t w)
-placed_ordered t w p = record { sorted = sorted_reaimed t.id t.group w.table.waiting p.sorted; up_to = up_to_reaimed t.id t.group w.table.accepted w.table.waiting p.up_to }
+placed_ordered t w p = record { sorted = sorted_retargeted t.id t.group w.table.waiting p.sorted; up_to = up_to_retargeted t.id t.group w.table.accepted w.table.waiting p.up_to }
 
 pub take_place_ordered : (id : ℕ) (w : Work) → Ordered w → Ordered (moves.take_place id w)
 take_place_ordered id w p = of_thread moves.taking_place (λ t x q. either _ _ _ (placed_ordered t x q) q) (thread_of w.table id) w p

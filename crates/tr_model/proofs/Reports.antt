@@ -1,5 +1,5 @@
 -- Which reports stand in the table, and that each move keeps count of them.
-use Rattle.std.proofs.Common.{◌≡◌, ℕ, zero, suc, ◌+◌, ◌≤◌, List, [], ◌∷◌, ◌++◌, true, false, Some, None, Option, refl, sym, ap, ◌∙◌, map, filter, Bool, not, ◌&&◌, ◌==◌, ◌⊎◌, inl, inr, if◌then◌else◌, arith, cond, add-one, append_assoc, subst}
+use Rattle.std.proofs.Common.{◌≡◌, ℕ, zero, suc, ◌+◌, ◌≤◌, List, [], ◌∷◌, ◌++◌, true, false, Some, None, Option, refl, sym, ap, ◌∙◌, map, filter, Bool, not, ◌&&◌, ◌==◌, ◌⊎◌, inl, inr, if◌then◌else◌, arith, cond, add-one, append_assoc, subst, unwrap_or}
 use Rattle.std.proofs.lemmas.Option.{none-some}
 use Rattle.tr_pending.specs.declared.instance.Instance.{Instance}
 use Rattle.tr_tracee.specs.declared.thread.Report.{Report}
@@ -191,7 +191,7 @@ module _ (before : List Raise) (taken : List ℕ) where
 
   death-reported : (g : ℕ) (s : End) (kill : Bool) (w : Work) → Reported before taken w → Reported before taken (Deaths.begin_death g s kill w)
   death-reported g s kill w p =
-      let now = Deaths.first_end (Tables.group_end w.table g) s in
+      let now = unwrap_or (Tables.group_end w.table g) s in
       let q = map-reported (Threads.at_group g (TraceeEnds.begun_to_leave kill now)) (calm_throughout g (TraceeEnds.begun_to_leave kill now) (calm_broken kill now)) _
       (regroup-reported (Moves.only_group g (Deaths.dying_with s)) (calm_group g (Deaths.dying_with s) (without_note _ (λ x. refl) (λ x. refl))) w p) in
       record { count = q.count; threads = q.threads; groups = q.groups }

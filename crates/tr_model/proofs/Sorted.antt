@@ -54,17 +54,17 @@ up_to_less m n (q ∷ qs) h = elim (q.instance.n == m) as (λ b. AllUpTo n (if b
 
 -- Queues passed on
 
-above_reaimed : (from to n : ℕ) (qs : List Waiting) → AllAbove n qs → AllAbove n (map (retargeted from to) qs)
-above_reaimed from to n [] h = tt
-above_reaimed from to n (q ∷ qs) h = (h.0, above_reaimed from to n qs h.1)
+above_retargeted : (from to n : ℕ) (qs : List Waiting) → AllAbove n qs → AllAbove n (map (retargeted from to) qs)
+above_retargeted from to n [] h = tt
+above_retargeted from to n (q ∷ qs) h = (h.0, above_retargeted from to n qs h.1)
 
-pub sorted_reaimed : (from to : ℕ) (qs : List Waiting) → IsSorted qs → IsSorted (map (retargeted from to) qs)
-sorted_reaimed from to [] h = tt
-sorted_reaimed from to (q ∷ qs) h = (above_reaimed from to q.instance.n qs h.0, sorted_reaimed from to qs h.1)
+pub sorted_retargeted : (from to : ℕ) (qs : List Waiting) → IsSorted qs → IsSorted (map (retargeted from to) qs)
+sorted_retargeted from to [] h = tt
+sorted_retargeted from to (q ∷ qs) h = (above_retargeted from to q.instance.n qs h.0, sorted_retargeted from to qs h.1)
 
-pub up_to_reaimed : (from to n : ℕ) (qs : List Waiting) → AllUpTo n qs → AllUpTo n (map (retargeted from to) qs)
-up_to_reaimed from to n [] h = tt
-up_to_reaimed from to n (q ∷ qs) h = (h.0, up_to_reaimed from to n qs h.1)
+pub up_to_retargeted : (from to n : ℕ) (qs : List Waiting) → AllUpTo n qs → AllUpTo n (map (retargeted from to) qs)
+up_to_retargeted from to n [] h = tt
+up_to_retargeted from to n (q ∷ qs) h = (h.0, up_to_retargeted from to n qs h.1)
 
 -- The instances of one queue
 

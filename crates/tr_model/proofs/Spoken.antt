@@ -1,5 +1,5 @@
 -- A report of a stop stands at a thread that is in it.
-use Rattle.std.proofs.Common.{◌≡◌, ℕ, ◌+◌, [], ◌∷◌, true, false, Some, None, Option, refl, sym, ◌∙◌, map, Bool, not, ◌&&◌, ◌==◌, ◌⊎◌, inl, inr, if◌then◌else◌, subst}
+use Rattle.std.proofs.Common.{◌≡◌, ℕ, ◌+◌, [], ◌∷◌, true, false, Some, None, Option, refl, sym, ◌∙◌, map, Bool, not, ◌&&◌, ◌==◌, ◌⊎◌, inl, inr, if◌then◌else◌, subst, unwrap_or}
 use Rattle.std.proofs.lemmas.Option.{none-some}
 use Rattle.tr_pending.specs.declared.instance.Instance.{Instance}
 use Rattle.tr_tracee.specs.declared.thread.Report.{Report}
@@ -132,7 +132,7 @@ placed-spoken t w d = go (Lives.is_execing t.life && not (t.id == t.group))
 
 death-spoken : (g : ℕ) (s : End) (kill : Bool) (w : Work) → Spoken w → Spoken (Deaths.begin_death g s kill w)
 death-spoken g s kill w d =
-    let now = Deaths.first_end (Tables.group_end w.table g) s in
+    let now = unwrap_or (Tables.group_end w.table g) s in
     map_spoken (Threads.at_group g (TraceeEnds.begun_to_leave kill now)) (throughout_speaks g (TraceeEnds.begun_to_leave kill now) (broken_speaks kill now)) w (Deaths.begin_death g s kill w) refl d
 
 pub moves-spoken : Kept any any_of Spoken

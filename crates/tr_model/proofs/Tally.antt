@@ -1,5 +1,5 @@
 -- The fates of the accepted numbers.
-use Rattle.std.proofs.Common.{◌≡◌, ℕ, zero, suc, ◌+◌, ◌≤◌, List, [], ◌∷◌, ◌++◌, true, false, Some, None, Option, refl, sym, ap, ◌∙◌, Bool, ◌&&◌, ◌==◌, ◌⊎◌, inl, inr, if◌then◌else◌, arith, nat_le, true≢false, ap₂, slice_get}
+use Rattle.std.proofs.Common.{◌≡◌, ℕ, zero, suc, ◌+◌, ◌≤◌, List, [], ◌∷◌, ◌++◌, true, false, Some, None, Option, refl, sym, ap, ◌∙◌, Bool, ◌&&◌, ◌==◌, ◌⊎◌, inl, inr, if◌then◌else◌, arith, nat_le, true≢false, ap₂, slice_get, unwrap_or}
 use Rattle.std.proofs.lemmas.Bool.{le-leb, eqb-true, and_from, eq-eqb}
 use Rattle.std.proofs.lemmas.Option.{none-some, same_Some}
 use Rattle.tr_model.specs.declared.events.Entry.{Entry}
@@ -34,11 +34,11 @@ five_of : (T U : Table) (es : List Entry) (n : ℕ) → 1 ≤ n → n ≤ U.acce
 five_of T U es n h l = go (nat_le 1 n && nat_le n U.accepted) (within_bool n U.accepted h l)
   where
     now : Fate
-    now = Journals.or_pending (Journals.ended_as (Journals.ended_by T es) n)
+    now = unwrap_or (Journals.ended_as (Journals.ended_by T es) n) Pending
 
     go : (b : Bool) → b ≡ true
-        → Journals.counts Pending (if b then Some (Journals.or_pending (Journals.ended_as (Journals.ended_by T es) n)) else None) + Journals.counts Merged (if b then Some (Journals.or_pending (Journals.ended_as (Journals.ended_by T es) n)) else None) + Journals.counts Delivered (if b then Some (Journals.or_pending (Journals.ended_as (Journals.ended_by T es) n)) else None) + Journals.counts Suppressed (if b then Some (Journals.or_pending (Journals.ended_as (Journals.ended_by T es) n)) else None) + Journals.counts Flushed (if b then Some (Journals.or_pending (Journals.ended_as (Journals.ended_by T es) n)) else None) ≡ 1
-    go true e = five (Journals.or_pending (Journals.ended_as (Journals.ended_by T es) n))
+        → Journals.counts Pending (if b then Some (unwrap_or (Journals.ended_as (Journals.ended_by T es) n) Pending) else None) + Journals.counts Merged (if b then Some (unwrap_or (Journals.ended_as (Journals.ended_by T es) n) Pending) else None) + Journals.counts Delivered (if b then Some (unwrap_or (Journals.ended_as (Journals.ended_by T es) n) Pending) else None) + Journals.counts Suppressed (if b then Some (unwrap_or (Journals.ended_as (Journals.ended_by T es) n) Pending) else None) + Journals.counts Flushed (if b then Some (unwrap_or (Journals.ended_as (Journals.ended_by T es) n) Pending) else None) ≡ 1
+    go true e = five (unwrap_or (Journals.ended_as (Journals.ended_by T es) n) Pending)
     go false e = absurd (true≢false (sym e))
 
 sum_to : (T U : Table) (es : List Entry) (a : ℕ) → a ≤ U.accepted
@@ -109,14 +109,14 @@ fates_agree T U es rs start r n l m = (has (Journals.ended_as (Journals.ended_by
     lists : Journals.occurs n (Journals.waiting_numbers U.waiting ++ Journals.held_numbers U.threads) ≡ waits n U.waiting + total (holds n) U.threads
     lists = occurs-append n (Journals.waiting_numbers U.waiting) (Journals.held_numbers U.threads) ∙ ap₂ (λ a b. a + b) (waits_is n U.waiting) (held_is n U.threads)
 
-    has : (o : Option Fate) → Journals.ended_as (Journals.ended_by T es) n ≡ o → Journals.HasFate (Journals.ended_by T es) U n (Journals.or_pending o)
+    has : (o : Option Fate) → Journals.ended_as (Journals.ended_by T es) n ≡ o → Journals.HasFate (Journals.ended_by T es) U n (unwrap_or o Pending)
     has None e = Journals.HasFate.still (occurs_is_in n (Journals.waiting_numbers U.waiting ++ Journals.held_numbers U.threads) (omega (arith, lists, count, never_ended (Journals.ended_by T es) n e)))
     has (Some f) e = let k = ended_first (Journals.ended_by T es) n f e in Journals.HasFate.ended_so k.0 k.1
 
-    by_first : (o : Option Fate) → Journals.ended_as (Journals.ended_by T es) n ≡ o → 1 ≤ Journals.occurs n (Journals.waiting_numbers U.waiting ++ Journals.held_numbers U.threads) → Pending ≡ Journals.or_pending o
+    by_first : (o : Option Fate) → Journals.ended_as (Journals.ended_by T es) n ≡ o → 1 ≤ Journals.occurs n (Journals.waiting_numbers U.waiting ++ Journals.held_numbers U.threads) → Pending ≡ unwrap_or o Pending
     by_first None e h = refl
     by_first (Some f) e h = let k = ended_first (Journals.ended_by T es) n f e in let g = (ended_only (Journals.ended_by T es) n k.0 f (omega (arith, count)) k.1).1 in absurd (omega (arith, lists, count))
 
-    only : (f : Fate) → Journals.HasFate (Journals.ended_by T es) U n f → f ≡ Journals.or_pending (Journals.ended_as (Journals.ended_by T es) n)
-    only f (Journals.HasFate.ended_so k e) = ap Journals.or_pending (sym (ended_only (Journals.ended_by T es) n k f (omega (arith, count)) e).0)
+    only : (f : Fate) → Journals.HasFate (Journals.ended_by T es) U n f → f ≡ unwrap_or (Journals.ended_as (Journals.ended_by T es) n) Pending
+    only f (Journals.HasFate.ended_so k e) = ap (λ o. unwrap_or o Pending) (sym (ended_only (Journals.ended_by T es) n k f (omega (arith, count)) e).0)
     only f (Journals.HasFate.still h) = by_first (Journals.ended_as (Journals.ended_by T es) n) refl (occurs-in n (Journals.waiting_numbers U.waiting ++ Journals.held_numbers U.threads) h)

@@ -1,5 +1,5 @@
 -- How threads and groups end: _exit(2), exit_group(2), "Death under ptrace" of ptrace(2).
-use Rattle.std.specs.Prelude.{ℕ, ◌%◌, ◌==◌, false, Option, Some, None, if◌then◌else◌}
+use Rattle.std.specs.Prelude.{ℕ, ◌%◌, ◌==◌, false, Option, Some, None, if◌then◌else◌, unwrap_or}
 use Rattle.tr_wait.specs.Words.{word}
 use Rattle.tr_tracee.specs.declared.life.End.{End}
 use Rattle.tr_tracee.specs.declared.life.End.TheVariants.{Exited}
@@ -13,7 +13,7 @@ use Rattle.tr_tracee.specs.Lives.{status_of_end}
 use Rattle.tr_tracee.specs.Threads.{at_thread, is_leader, is_traced, options_of}
 use Rattle.tr_model.specs.declared.fates.Fate.TheVariants.{Flushed}
 use Rattle.tr_model.specs.declared.rows.Target.TheVariants as target
-use Rattle.tr_model.specs.Deaths.{begin_death, first_end}
+use Rattle.tr_model.specs.Deaths.{begin_death}
 use Rattle.tr_model.specs.Tables.{Table, all_dead, group_end, same_target}
 use Rattle.tr_model.specs.Moves.{Work, alter, at, drop_empty, end_waiting, enter, remove_dead, report_death, when}
 
@@ -41,7 +41,7 @@ exit_group code t w = begin_death t.group (exited code) false w
 
 -- the end that a death report tells: the group's where it is dying, else the thread's own
 abbrev pub reported_end : Table → Thread → End → End
-reported_end T t e = first_end (group_end T t.group) e
+reported_end T t e = unwrap_or (group_end T t.group) e
 
 -- how a dead thread itself ended; an exit with 0 only fills in for other lives
 abbrev pub end_of_dead : Life → End

@@ -1,5 +1,5 @@
 -- Journals: replay, and what their entries ended, raised, consumed, took and killed.
-use Rattle.std.specs.Prelude.{◌≡◌, ℕ, ◌+◌, ◌<◌, ◌≤◌, zero, suc, List, [], ◌∷◌, ◌++◌, length, Bool, true, false, ◌&&◌, ◌==◌, nat_le, Option, Some, None, if◌then◌else◌, ◌⊎◌, slice_get}
+use Rattle.std.specs.Prelude.{◌≡◌, ℕ, ◌+◌, ◌<◌, ◌≤◌, zero, suc, List, [], ◌∷◌, ◌++◌, length, Bool, true, false, ◌&&◌, ◌==◌, nat_le, Option, Some, None, if◌then◌else◌, ◌⊎◌, slice_get, unwrap_or, option_to_list}
 use Rattle.tr_pending.specs.declared.instance.Instance.{Instance}
 use Rattle.tr_tracee.specs.declared.life.Life.TheVariants as life
 use Rattle.tr_tracee.specs.declared.thread.Thread.{Thread}
@@ -135,14 +135,9 @@ abbrev pub ended_as : List Ending → ℕ → Option Fate
 ended_as [] n = None
 ended_as (e ∷ es) n = if e.number == n then Some e.fate else ended_as es n
 
--- an accepted signal that nothing ended is pending
-abbrev pub or_pending : Option Fate → Fate
-or_pending None = Pending
-or_pending (Some f) = f
-
--- the fate of an accepted number
+-- the fate of an accepted number: pending, where nothing ended it
 abbrev pub fate_of : Table → List Entry → Table → ℕ → Option Fate
-fate_of T es U n = if nat_le 1 n && nat_le n U.accepted then Some (or_pending (ended_as (ended_by T es) n)) else None
+fate_of T es U n = if nat_le 1 n && nat_le n U.accepted then Some (unwrap_or (ended_as (ended_by T es) n) Pending) else None
 
 -- a number has a fate: it waits or is held, or an entry ended it so
 pub data HasFate (ended : List Ending) (U : Table) (n : ℕ) : Fate → Type 0 where
@@ -195,15 +190,10 @@ abbrev pub WasRaised : ℕ → Option ℕ → List Raise → Type 0
 WasRaised r whom [] = ⊥
 WasRaised r whom (x ∷ xs) = ((x.number ≡ r) × (x.whom ≡ whom)) ⊎ WasRaised r whom xs
 
--- the report that the choice names, if it names one
-abbrev pub chosen : Option ℕ → List ℕ
-chosen None = []
-chosen (Some r) = r ∷ []
-
--- the report that an event consumes by its choice: one, for a wait
+-- the report that an event consumes by its choice, if it names one: for a wait
 abbrev pub consumed_of : Event → Choice → List ℕ
-consumed_of (event.Wait which) c = chosen c.report
-consumed_of (event.StarterWait which flags) c = chosen c.report
+consumed_of (event.Wait which) c = option_to_list c.report
+consumed_of (event.StarterWait which flags) c = option_to_list c.report
 consumed_of _ c = []
 
 -- for whom: a tracer, or the starter

@@ -1,5 +1,5 @@
 -- The laws of every journal that replays from a start, whoever made its entries.
-use Rattle.std.specs.Prelude.{◌≡◌, ◌≢◌, ℕ, ◌+◌, ◌≤◌, ◌<◌, List, [], ◌∷◌, ◌++◌, length, true, Option, Some, None, ◌⊎◌}
+use Rattle.std.specs.Prelude.{◌≡◌, ◌≢◌, ℕ, ◌+◌, ◌≤◌, ◌<◌, List, [], ◌∷◌, ◌++◌, length, true, Option, Some, None, ◌⊎◌, unwrap_or}
 use Rattle.tr_wait.specs.declared.status.Status.{Status}
 use Rattle.tr_wait.specs.declared.status.Status.TheVariants as status
 use Rattle.tr_wait.specs.declared.waits.Which.{Which}
@@ -20,7 +20,7 @@ use Rattle.tr_model.specs.declared.replies.Reply.TheVariants as reply
 use Rattle.tr_model.specs.declared.rows.Target.{Target}
 use Rattle.tr_model.specs.declared.rows.Target.TheVariants as target
 use Rattle.tr_model.specs.Causes.{cause_of, quiet_of}
-use Rattle.tr_model.specs.Journals.{Each, EachGroup, DistinctIds, HasFate, IsIn, IsSorted, IsStart, Replay, Taken, WasRaised, consumed, consumed_by, consumer, ended_as, ended_by, held_numbers, killed_by, numbers_of, occurs, or_pending, raised_by, renamed_by, taken, totals, waiting_numbers}
+use Rattle.tr_model.specs.Journals.{Each, EachGroup, DistinctIds, HasFate, IsIn, IsSorted, IsStart, Replay, Taken, WasRaised, consumed, consumed_by, consumer, ended_as, ended_by, held_numbers, killed_by, numbers_of, occurs, raised_by, renamed_by, taken, totals, waiting_numbers}
 use Rattle.tr_model.specs.Preferred.{preferred}
 use Rattle.tr_model.specs.Steps.{Admits, Step, work_of}
 use Rattle.tr_model.specs.Tables.{Table, thread_of}
@@ -40,7 +40,7 @@ EachSignalHasOneFate = (T U : Table) (es : List Entry) (rs : List Reply) → IsS
 -- a number has the one fate that the first entry which ended it gave it, else Pending
 abbrev pub FatesAgree : Type 0
 FatesAgree = (T U : Table) (es : List Entry) (rs : List Reply) → IsStart T → Replay T es rs U → (n : ℕ) → 1 ≤ n → n ≤ U.accepted
-    → HasFate (ended_by T es) U n (or_pending (ended_as (ended_by T es) n)) × ((f : Fate) → HasFate (ended_by T es) U n f → f ≡ or_pending (ended_as (ended_by T es) n))
+    → HasFate (ended_by T es) U n (unwrap_or (ended_as (ended_by T es) n) Pending) × ((f : Fate) → HasFate (ended_by T es) U n f → f ≡ unwrap_or (ended_as (ended_by T es) n) Pending)
 
 -- what an entry ended isn't pending
 abbrev pub EndedIsNotPending : Type 0

@@ -1,5 +1,5 @@
 -- Restarts, and the end of tracing by a request: ptrace(2).
-use Rattle.std.specs.Prelude.{ℕ, ◌==◌, pos, Option, Some, None, if◌then◌else◌, is_some}
+use Rattle.std.specs.Prelude.{ℕ, ◌==◌, pos, Option, Some, None, if◌then◌else◌, is_some, unwrap_or}
 use Rattle.tr_sigset.specs.Sets.{has}
 use Rattle.tr_pending.specs.declared.instance.Instance.{Instance}
 use Rattle.tr_tracee.specs.declared.thread.Thread.{Thread}
@@ -18,16 +18,11 @@ use Rattle.tr_model.specs.Moves.{accept_as, alter, change_ending, Work}
 abbrev pub resume : Fate → Thread → Work → Work
 resume fate t w = change_ending fate restarted t w
 
--- the tracer as the sender that an injected signal tells, 0 where there is none
-abbrev pub tracer_number : Option ℕ → ℕ
-tracer_number None = 0
-tracer_number (Some a) = a
-
--- a restart with another number than the one held: a new instance, from the tracer
+-- a restart with another number than the one held: a new instance, from the tracer, or from 0 where there is none
 abbrev pub inject : Thread → ℕ → Work → Work
 inject t s w =
     if has t.mask s
-    then put s (info (pos 0) (tracer_number (tracer_of t.trace)) (pos 0)) (target.Thread t.id) w
+    then put s (info (pos 0) (unwrap_or (tracer_of t.trace) 0) (pos 0)) (target.Thread t.id) w
     else act_on t s (cont_came t.life) (accept_as Delivered w)
 
 -- PTRACE_CONT from a signal-delivery-stop: 0 suppresses the signal, its own number delivers it

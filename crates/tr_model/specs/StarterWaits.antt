@@ -47,9 +47,9 @@ abbrev pub ready_for_starter : Table → Which → WaitFlags → List ℕ
 ready_for_starter T which flags = flat_map (ready_of_group T flags) (led_groups T which)
 
 -- the first group whose note has the number
-abbrev pub with_note : List Group → ℕ → Option Group
-with_note [] r = None
-with_note (g ∷ gs) r = if has_report r g.note then Some g else with_note gs r
+abbrev pub group_with_note : List Group → ℕ → Option Group
+group_with_note [] r = None
+group_with_note (g ∷ gs) r = if has_report r g.note then Some g else group_with_note gs r
 
 -- the thread is dead and untraced, and this is the number of its report
 abbrev pub has_death : ℕ → Option Thread → Bool
@@ -71,7 +71,7 @@ shows_note T which flags g = asks_for which g.tgid && (is_some (thread_of T g.tg
 
 -- the group that has the note
 abbrev pub ready_note : Table → Which → WaitFlags → ℕ → Option Group
-ready_note T which flags r = with_note (filter (shows_note T which flags) T.groups) r
+ready_note T which flags r = group_with_note (filter (shows_note T which flags) T.groups) r
 
 -- the note is consumed, so no other wait gives it
 abbrev pub no_note : Group → Group

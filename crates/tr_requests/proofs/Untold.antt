@@ -8,7 +8,7 @@ use Rattle.tr_tracee.specs.declared.thread.Thread.{Thread}
 use Rattle.tr_tracee.specs.Lives.{is_dead}
 use Rattle.tr_tracee.specs.Threads.{is_traced}
 use Rattle.tr_model.specs.declared.rows.Group.{Group}
-use Rattle.tr_model.specs.StarterWaits.{death_number, has_death, note_number, note_wanted, ready_of_group, with_death, with_note}
+use Rattle.tr_model.specs.StarterWaits.{death_number, has_death, note_number, note_wanted, ready_of_group, with_death, group_with_note}
 use Rattle.tr_model.specs.Tables.{Table, has_traced, thread_in, thread_of}
 use Rattle.tr_model.specs.Waits.{has_report, report_number}
 use Rattle.tr_requests.specs.Private.{first_number}
@@ -60,16 +60,16 @@ unnumbered : (n : ℕ) (r : Option Report) → is_some r ≡ false → has_repor
 unnumbered n None e = refl
 unnumbered n (Some x) e = cc
 
-pub no_noter : (p : Group → Bool) (gs : List Group) → list_any (λ g. is_some g.note) gs ≡ false → (n : ℕ) → with_note (filter p gs) n ≡ None
+pub no_noter : (p : Group → Bool) (gs : List Group) → list_any (λ g. is_some g.note) gs ≡ false → (n : ℕ) → group_with_note (filter p gs) n ≡ None
 no_noter p [] e n = refl
 no_noter p (g ∷ gs) e n = go (p g) (is_some g.note) refl e (λ h. no_noter p gs h n)
   where
-    go : (b c : Bool) → is_some g.note ≡ c → (c || list_any (λ x. is_some x.note) gs) ≡ false → (list_any (λ x. is_some x.note) gs ≡ false → with_note (filter p gs) n ≡ None) → with_note (cond b (g ∷ filter p gs) (filter p gs)) n ≡ None
+    go : (b c : Bool) → is_some g.note ≡ c → (c || list_any (λ x. is_some x.note) gs) ≡ false → (list_any (λ x. is_some x.note) gs ≡ false → group_with_note (filter p gs) n ≡ None) → group_with_note (cond b (g ∷ filter p gs) (filter p gs)) n ≡ None
     go b true k h r = absurd (never h)
       where
         never : true ≡ false → ⊥
         never q = cc
-    go true false k h r = ap (λ d. if d then Some g else with_note (filter p gs) n) (unnumbered n g.note k) ∙ r h
+    go true false k h r = ap (λ d. if d then Some g else group_with_note (filter p gs) n) (unnumbered n g.note k) ∙ r h
     go false false k h r = r h
 
 -- neither

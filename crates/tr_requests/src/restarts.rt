@@ -1,13 +1,13 @@
 //! How a tracer restarts a tracee from its ptrace-stop: `PTRACE_CONT`, `PTRACE_LISTEN` and `PTRACE_DETACH` of ptrace(2).
 
-ghost use Rattle.std.specs.Prelude.{◌≡◌, ◌≤◌, IfOk, Ok, OnErr, Some};
+ghost use Rattle.std.specs.Prelude.{◌≡◌, ◌≤◌, IfOk, Ok, OnErr, Some, unwrap_or};
 ghost use Rattle.tr_tracee.specs.Lives.{held};
 ghost use Rattle.tr_tracee.specs.Threads.{tracer_of};
 ghost use Rattle.tr_model.specs.declared.checked.Checked.TheVariants.{Due};
 ghost use Rattle.tr_model.specs.declared.events.Event.TheVariants.{Cont, Detach, Listen};
 ghost use Rattle.tr_model.specs.Moves.{at};
 ghost use Rattle.tr_model.specs.Preferred.{check};
-ghost use Rattle.tr_model.specs.Restarts.{inject, listen, tracer_number, untrace};
+ghost use Rattle.tr_model.specs.Restarts.{inject, listen, untrace};
 ghost use Rattle.tr_model.specs.Choices.{no_choice};
 ghost use Rattle.tr_model.specs.Tables.{thread_of};
 ghost use Rattle.tr_steps.specs.UnderWay.{IsStepOf, Moves, entry};
@@ -24,7 +24,7 @@ use tr_table::{Table, ThreadChange};
 use tr_tracee::Thread;
 
 fn tracer_of(thread: &Thread) -> u32
-    ensures { result ≡ tracer_number (tracer_of thread.now.trace) }
+    ensures { result ≡ unwrap_or (tracer_of thread.now.trace) 0 }
 {
     thread.trace.map_or(0, |trace| trace.tracer)
 }

@@ -8,13 +8,13 @@ ghost use Rattle.tr_model.specs.declared.events.Event.TheVariants.{StarterWait};
 ghost use Rattle.tr_model.specs.Preferred.{check};
 ghost use Rattle.tr_model.specs.Choices.{gives_report};
 ghost use Rattle.tr_model.specs.Tables.{has_traced, thread_of};
-ghost use Rattle.tr_model.specs.StarterWaits.{consume_note, death_number, has_death, note_number, note_wanted, ready_death, ready_for_starter, ready_note, ready_of_group, shows_note, starter_takes, wanted, with_death, with_note};
+ghost use Rattle.tr_model.specs.StarterWaits.{consume_note, death_number, has_death, note_number, note_wanted, ready_death, ready_for_starter, ready_note, ready_of_group, shows_note, starter_takes, wanted, with_death, group_with_note};
 ghost use Rattle.tr_table.specs.Waits.{is_untraced_death};
 ghost use Rattle.tr_steps.specs.UnderWay.{IsStepOf, Moves};
 ghost use Rattle.tr_requests.specs.Private.{first_number, led_among};
 
 use crate::ends::remove_thread;
-use crate::waits::{giving, is_numbered, number_of, waited_thread};
+use crate::waits::{due_report, has_report, number_of, waited_thread};
 use std::alloc::AllocError;
 use tr_model::{Checked, Group, Refusal, Reply};
 use tr_steps::Step;
@@ -23,7 +23,7 @@ use tr_tracee::{Report, Thread};
 use tr_wait::{Status, WaitFlags, Which};
 
 /// Whether the wait asks for the group, and its leader is in the table.
-fn is_led(which: Which, group: &Group, leader: Option<&Thread>) -> bool
+fn has_leader(which: Which, group: &Group, leader: Option<&Thread>) -> bool
     ensures { result ≡ (asks_for which group.now.tgid && is_some (option_copied leader.entry)) }
 {
     which.asks_for(group.tgid) && leader.is_some()
@@ -34,7 +34,9 @@ fn has_led_among(table: &Table, groups: &[Group], which: Which) -> bool
         ≡ list_any
         (λ g. asks_for which g.tgid && is_some (thread_of table.now.table g.tgid)) groups.now }
 {
-    groups.iter().any(|g| is_led(which, g, table.find(g.tgid)))
+    groups
+        .iter()
+        .any(|g| has_leader(which, g, table.find(g.tgid)))
 }
 
 fn has_led(table: &Table, which: Which) -> bool
@@ -62,7 +64,7 @@ fn is_death(leader: Option<&Thread>, number: u64) -> bool
 {
     match leader {
         Some(leader) => {
-            leader.life.is_dead() && !leader.is_traced() && is_numbered(&leader.report, number)
+            leader.life.is_dead() && !leader.is_traced() && has_report(&leader.report, number)
         }
         None => false,
     }
@@ -145,7 +147,7 @@ fn ready_of_led(table: &Table, which: Which, flags: WaitFlags, group: &Group) ->
         return None;
     }
     let leader = table.find(group.tgid);
-    if is_led(which, group, leader) {
+    if has_leader(which, group, leader) {
         ready_of_group(table, flags, group, leader)
     } else {
         None
@@ -188,7 +190,7 @@ fn death_among<'a>(
 {
     for group in groups {
         let leader = table.find(group.tgid);
-        if is_led(which, group, leader) && is_death(leader, number) {
+        if has_leader(which, group, leader) && is_death(leader, number) {
             return leader;
         }
     }
@@ -208,7 +210,7 @@ pub(crate) fn ready_death(table: &Table, which: Which, number: u64) -> Option<&T
 fn shows_note(table: &Table, which: Which, flags: WaitFlags, group: &Group) -> bool
     ensures { result ≡ shows_note table.now.table which flags group.now }
 {
-    is_led(which, group, table.find(group.tgid)) && is_note_shown(table, flags, group)
+    has_leader(which, group, table.find(group.tgid)) && is_note_shown(table, flags, group)
 }
 
 fn note_among<'a>(
@@ -219,10 +221,10 @@ fn note_among<'a>(
     number: u64,
 ) -> Option<&'a Group>
     ensures { option_copied result
-        ≡ with_note (filter (shows_note table.now.table which flags) groups.now) number }
+        ≡ group_with_note (filter (shows_note table.now.table which flags) groups.now) number }
 {
     for group in groups {
-        if is_numbered(&group.note, number) && shows_note(table, which, flags, group) {
+        if has_report(&group.note, number) && shows_note(table, which, flags, group) {
             return Some(group);
         }
     }
@@ -258,7 +260,7 @@ pub fn check_starter_wait(
     if actor != 1 || !has_led(table, which) {
         return Err(Refusal::Child);
     }
-    Ok(giving(first_for_starter(table, which, flags)))
+    Ok(due_report(first_for_starter(table, which, flags)))
 }
 
 /// The starter's wait gives the note of a group.

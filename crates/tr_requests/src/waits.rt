@@ -20,7 +20,7 @@ use tr_tracee::{Report, Thread};
 use tr_wait::{Which, encode};
 
 /// Due with the first report that is ready; without one nothing is given.
-pub(crate) fn giving(ready: Option<u64>) -> Checked
+pub(crate) fn due_report(ready: Option<u64>) -> Checked
     ensures { result ≡ due_report ready }
 {
     match ready {
@@ -35,7 +35,7 @@ pub(crate) fn number_of(report: &Option<Report>) -> Option<u64>
     report.as_ref().map(|report| report.number)
 }
 
-pub(crate) fn is_numbered(report: &Option<Report>, number: u64) -> bool
+pub(crate) fn has_report(report: &Option<Report>, number: u64) -> bool
     ensures { result ≡ has_report number report.now }
 {
     report
@@ -68,7 +68,7 @@ pub fn check_wait(table: &Table, actor: u32, which: Which) -> Result<Checked, Re
     if !table.has_asked(actor, which) {
         return Err(Refusal::Child);
     }
-    Ok(giving(first_ready(table, actor, which)))
+    Ok(due_report(first_ready(table, actor, which)))
 }
 
 /// What a wait that gives a report of this thread or group tells.

@@ -1,5 +1,5 @@
 -- The status text of a thread: proc_pid_status(5).
-use Rattle.std.specs.Prelude.{ℕ, ◌-◌, Bool, true, false, ◌&&◌, nat_le, List, [], ◌∷◌, Option, Some, None, codes, decimal, length, slice_index_or, take, if◌then◌else◌}
+use Rattle.std.specs.Prelude.{ℕ, ◌-◌, Bool, true, false, ◌&&◌, nat_le, List, [], ◌∷◌, Option, Some, None, codes, decimal, length, slice_index_or, take, if◌then◌else◌, unwrap_or}
 use Rattle.tr_sigset.specs.Sets.{has}
 use Rattle.tr_pending.specs.Waiting.{is_waiting}
 use Rattle.tr_tracee.specs.declared.life.Life.{Life}
@@ -11,7 +11,6 @@ use Rattle.tr_group.specs.declared.stops.Action.TheVariants.{Default, Ignore, Ca
 use Rattle.tr_model.specs.declared.rows.Group.{Group}
 use Rattle.tr_model.specs.declared.rows.Target.{Target}
 use Rattle.tr_model.specs.declared.rows.Target.TheVariants as target
-use Rattle.tr_model.specs.Restarts.{tracer_number}
 use Rattle.tr_model.specs.Tables.{Table, actions_of, group_of, members, queue}
 use Rattle.tr_lanes.specs.Digits.{set_digits}
 use Rattle.tr_status.specs.Texts.{texts}
@@ -90,7 +89,7 @@ status_text T t = lines_text (record {
   state = state_text t.pausing t.life;
   tgid = decimal t.group;
   pid = decimal t.id;
-  tracer = decimal (tracer_number (tracer_of t.trace));
+  tracer = decimal (unwrap_or (tracer_of t.trace) 0);
   threads = decimal (length (members T t.group));
   queued = decimal (length T.waiting);
   limit = decimal T.limit;

@@ -1,7 +1,6 @@
-ghost use Rattle.std.specs.Prelude.{◌≡◌, ◌≤◌, ◌==◌, ◌||◌, ℕ, length, option_copied, take};
+ghost use Rattle.std.specs.Prelude.{◌≡◌, ◌≤◌, ◌==◌, ◌||◌, ℕ, length, option_copied, take, unwrap_or};
 ghost use Rattle.tr_lanes.specs.Digits.{set_digits};
 ghost use Rattle.tr_model.specs.declared.rows.Target.TheVariants as target;
-ghost use Rattle.tr_model.specs.Restarts.{tracer_number};
 ghost use Rattle.tr_model.specs.Tables.{actions_of, group_of};
 ghost use Rattle.tr_group.specs.declared.stops.Action.TheVariants as action;
 ghost use Rattle.tr_sigset.specs.Sets.{has};
@@ -144,7 +143,7 @@ pub(crate) fn state_of(thread: &Thread) -> &'static [u8]
 
 /// The tracer's number, 0 where there is none.
 pub(crate) fn tracer_number(trace: &Option<Trace>) -> u32
-    ensures { result ≡ tracer_number (tracer_of trace.now) }
+    ensures { result ≡ unwrap_or (tracer_of trace.now) 0 }
 {
     trace.map_or(0, |trace| trace.tracer)
 }

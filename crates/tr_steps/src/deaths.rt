@@ -1,7 +1,7 @@
 //! How a group begins to die: exit_group(2), and "Death under ptrace" of ptrace(2).
 
-ghost use Rattle.std.specs.Prelude.{◌≡◌, ◌≤◌};
-ghost use Rattle.tr_model.specs.Deaths.{begin_death, first_end, kill_group};
+ghost use Rattle.std.specs.Prelude.{◌≡◌, ◌≤◌, unwrap_or};
+ghost use Rattle.tr_model.specs.Deaths.{begin_death, kill_group};
 ghost use Rattle.tr_model.specs.Tables.{group_end};
 ghost use Rattle.tr_steps.specs.UnderWay.{Moves};
 
@@ -12,7 +12,7 @@ use tr_tracee::End;
 
 impl Step {
     fn end_now(&self, tgid: u32, end: &End) -> End
-        ensures { result ≡ first_end (group_end self.now.work.table tgid) end.now }
+        ensures { result ≡ unwrap_or (group_end self.now.work.table tgid) end.now }
     {
         self.table().end_of(tgid).unwrap_or(*end)
     }

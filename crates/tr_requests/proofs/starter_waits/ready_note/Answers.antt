@@ -1,7 +1,7 @@
 use Rattle.std.proofs.Common.{◌&&◌, ◌∙◌, List, filter, is_some, not, ap, sym}
 use Rattle.tr_wait.specs.Words.{asks_for}
 use Rattle.tr_model.specs.declared.rows.Group.{Group}
-use Rattle.tr_model.specs.StarterWaits.{note_wanted, shows_note, with_note}
+use Rattle.tr_model.specs.StarterWaits.{note_wanted, shows_note, group_with_note}
 use Rattle.tr_model.specs.Tables.{has_traced, thread_of}
 use Rattle.tr_requests.proofs.Firsts.{filter_twice}
 use Rattle.tr_requests.proofs.Untold.{no_noter}
@@ -15,4 +15,4 @@ returns c =
     let T = c.args.table.now.table in
     let asks = λ (g : Group). asks_for c.args.which g.tgid in
     let shown = λ (g : Group). is_some (thread_of T g.tgid) && (not (has_traced T g.tgid) && note_wanted c.args.flags g.note) in
-    c.note_among.ensures ∙ ap (λ (gs : List Group). with_note gs c.args.number) (ap (λ (gs : List Group). filter (shows_note T c.args.which c.args.flags) gs) c.asked_groups.ensures ∙ filter_twice asks shown T.groups)
+    c.note_among.ensures ∙ ap (λ (gs : List Group). group_with_note gs c.args.number) (ap (λ (gs : List Group). filter (shows_note T c.args.which c.args.flags) gs) c.asked_groups.ensures ∙ filter_twice asks shown T.groups)

@@ -5,7 +5,7 @@ use Rattle.tr_tracee.specs.Threads.{is_leader}
 use Rattle.tr_model.specs.Moves.{in_leaders_row}
 use Rattle.tr_model.specs.Tables.{Table, thread_in}
 use Rattle.tr_model.proofs.Kept.{itself}
-use Rattle.tr_model.proofs.Sorted.{up_to_reaimed}
+use Rattle.tr_model.proofs.Sorted.{up_to_retargeted}
 use Rattle.tr_table.specs.Order.{IsRoster}
 use Rattle.tr_table.specs.Slots.{standing}
 use Rattle.tr_table.specs.View.{View}
@@ -37,7 +37,7 @@ invariant_of-self c =
     let here = c.in_ok-place.ensures.place in
     let mine : thread_in o.threads x.id ≡ Some x = itself o.threads c.args.id x (there c.args.id c.in_ok-place.place T here x (c.at.ensures x)) in
     let roster : IsRoster (map (in_leaders_row x) (remove o.threads c.in_ok-place.place)) = subst (λ (ts : List Thread). IsRoster (map (in_leaders_row x) ts)) (gone c.args.id c.in_ok-place.place T here x (c.at.ensures x)) (roster_placed x o.threads mine c.self.invariant.roster) in
-    rw c.take_place.ensures (record { roster = roster; few = c.self.invariant.few; ordered = record { kept = c.retarget.ensures.kept; numbered = rw c.retarget.ensures.waiting (up_to_reaimed _ _ _ _ c.self.invariant.ordered.numbered) } })
+    rw c.take_place.ensures (record { roster = roster; few = c.self.invariant.few; ordered = record { kept = c.retarget.ensures.kept; numbered = rw c.retarget.ensures.waiting (up_to_retargeted _ _ _ _ c.self.invariant.ordered.numbered) } })
 
 pub returns : goal.returns
 returns c =
