@@ -1,18 +1,19 @@
 -- The digits of a word, four members at a time.
-use Rattle.std.proofs.Common.{◌≡◌, ℕ, zero, suc, ◌+◌, ◌*◌, ◌/◌, ◌%◌, ◌^◌, ◌<◌, cond, ◌==◌, List, [], ◌∷◌, arith, refl, sym, ap, ◌∙◌, get_or, bit_and}
+use Rattle.std.proofs.Common.{◌≡◌, ℕ, zero, suc, ◌+◌, ◌*◌, ◌/◌, ◌%◌, ◌^◌, ◌<◌, cond, ◌==◌, List, [], ◌∷◌, arith, refl, sym, ap, ◌∙◌, bit_and}
 use Rattle.std.specs.Int.{bit_at}
 use Rattle.std.specs.Int.Bits.{mask_lt}
 use Rattle.std.proofs.Math.Nat.{div-div-eq-div-mul}
 use Rattle.std.proofs.lemmas.Bool.Decides.{nat_tests}
 use Rattle.std.proofs.lemmas.Nat.{and_mask, pow-add}
 use Rattle.std.proofs.lemmas.Nat.Bits.{bit_at-lt}
-use lib.Dec.{leb}
+use lib.Dec.{ltb}
+use lib.Lanes.{top}
 use Rattle.tr_sigset.specs.Sets.{in_word}
 use Rattle.tr_sigset.proofs.Members.{in_word-suc}
 use Rattle.tr_lanes.specs.Digits.{member, digit_value, digit_text}
 
--- the text of a digit, as it is looked up
-text_at : (n : ℕ) → n < 16 → cond (leb 128 n) 0 (get_or (48 ∷ 49 ∷ 50 ∷ 51 ∷ 52 ∷ 53 ∷ 54 ∷ 55 ∷ 56 ∷ 57 ∷ 97 ∷ 98 ∷ 99 ∷ 100 ∷ 101 ∷ 102 ∷ []) (0 + n) 0) ≡ digit_text n
+-- the text of a digit, as lanes make it
+text_at : (n : ℕ) → n < 16 → ((n + 48) % 256 + cond (top 7 (cond (ltb 9 n) 255 0)) 39 0) % 256 ≡ digit_text n
 text_at zero h = refl
 text_at (suc zero) h = refl
 text_at (suc (suc zero)) h = refl
@@ -52,7 +53,7 @@ nibble_is word k l =
     ∙ ap (λ v. 8 * member (in_word word) (4 * k + 4) + 4 * member (in_word word) (4 * k + 3) + 2 * v + word / 2 ^ (4 * k) % 2) (bit_above word (4 * k) 1 ∙ member_is word (4 * k + 1) (omega arith) ∙ ap (member (in_word word)) (omega arith))
     ∙ ap (λ v. 8 * member (in_word word) (4 * k + 4) + 4 * member (in_word word) (4 * k + 3) + 2 * member (in_word word) (4 * k + 2) + v) (member_is word (4 * k) (omega arith))
 
-pub digit_is : (word k : ℕ) → k < 16 → cond (leb 128 (bit_and (word / 2 ^ (4 * k)) 15)) 0 (get_or (48 ∷ 49 ∷ 50 ∷ 51 ∷ 52 ∷ 53 ∷ 54 ∷ 55 ∷ 56 ∷ 57 ∷ 97 ∷ 98 ∷ 99 ∷ 100 ∷ 101 ∷ 102 ∷ []) (0 + bit_and (word / 2 ^ (4 * k)) 15) 0) ≡ digit_text (digit_value (in_word word) k)
+pub digit_is : (word k : ℕ) → k < 16 → ((bit_and (word / 2 ^ (4 * k)) 15 + 48) % 256 + cond (top 7 (cond (ltb 9 (bit_and (word / 2 ^ (4 * k)) 15)) 255 0)) 39 0) % 256 ≡ digit_text (digit_value (in_word word) k)
 digit_is word k l = text_at (bit_and (word / 2 ^ (4 * k)) 15) (mask_lt (word / 2 ^ (4 * k)) 4) ∙ ap digit_text (nibble_is word k l)
 
 pub cons : {x y : ℕ} {xs ys : List ℕ} → x ≡ y → xs ≡ ys → x ∷ xs ≡ y ∷ ys
