@@ -1,10 +1,14 @@
 //! Measures how many steps a second a kernel makes, where it is called as `bench_steps measure`.
 #![tactic(auto)]
 
+mod mixes;
 mod starts;
 mod timing;
 mod waits;
 
+use mixes::{
+    STOPPING, any_takes, blocking, crowd, deliveries, group_stops, queued_takes, seized, waiting,
+};
 use starts::{FIRST, Shape, kernel, table};
 use std::{env, io};
 use timing::{FEW, STEPS, Timing, timed};
@@ -86,7 +90,21 @@ fn measure_waits(rt: &HostRuntime) -> io::Result<()> {
     let last = timed(rt, STEPS as u32, || traced(alloc), stops)?;
     print(rt, "wait, last of 1,024", last)?;
     let idle = timed(rt, STEPS as u32, || traced(alloc), idle_waits)?;
-    print(rt, "wait for nothing", idle)
+    print(rt, "wait for nothing", idle)?;
+    measure_mixes(rt)
+}
+
+/// Calls that go together.
+fn measure_mixes(rt: &HostRuntime) -> io::Result<()> {
+    let alloc = rt.alloc();
+    let queued = timed(rt, STEPS as u32, || waiting(alloc), queued_takes)?;
+    print(rt, "sigqueue, 1,000 wait", queued)?;
+    let any = timed(rt, STEPS as u32, || blocking(alloc), any_takes)?;
+    print(rt, "take_any of 64", any)?;
+    let delivered = timed(rt, STEPS as u32, || seized(alloc), deliveries)?;
+    print(rt, "a delivery, traced", delivered)?;
+    let stopped = timed(rt, STOPPING, || crowd(alloc), group_stops)?;
+    print(rt, "a group-stop of 64", stopped)
 }
 
 fn stepped<R: Fn(&mut Kernel) -> u64>(

@@ -15,50 +15,56 @@ pub struct Shape {
     pub threads: u32,
 }
 
-fn item<T: Drop>(alloc: Global, item: T) -> Result<Items<T>, AllocError> {
-    let mut items = Items::new(alloc);
-    items.push(item)?;
-    Ok(items)
-}
-
-/// A group that catches USR1, of threads with the ids from its own on.
-fn group(alloc: Global, usr1: Signal, tgid: u32, count: u32) -> Result<GroupStart, AllocError> {
+/// A group that catches these signals, of threads with the ids from its own on.
+fn group(
+    alloc: Global,
+    caught: [Signal; 2],
+    tgid: u32,
+    count: u32,
+) -> Result<GroupStart, AllocError> {
     let mut threads = Items::new(alloc);
     for i in 0..count {
         threads.push((tgid.wrapping_add(i), SigSet::empty()))?;
     }
+    let mut actions = Items::new(alloc);
+    for signal in caught {
+        actions.push((signal, Action::Catch))?;
+    }
+    let mut name = Items::new(alloc);
+    name.push(b'd')?;
     Ok(GroupStart {
         tgid,
-        name: item(alloc, b'd')?,
-        actions: item(alloc, (usr1, Action::Catch))?,
+        name,
+        actions,
         threads,
     })
 }
 
-fn start(alloc: Global, usr1: Signal, shape: Shape) -> Result<Start, AllocError> {
+fn start(alloc: Global, caught: [Signal; 2], shape: Shape) -> Result<Start, AllocError> {
     let mut groups = Items::new(alloc);
     let mut tgid = FIRST;
     for _ in 0..shape.groups {
-        groups.push(group(alloc, usr1, tgid, shape.threads)?)?;
+        groups.push(group(alloc, caught, tgid, shape.threads)?)?;
         tgid = tgid.wrapping_add(shape.threads);
     }
     Ok(Start {
         groups,
-        limit: 4,
+        limit: 10_000,
         entries: u32::MAX,
     })
 }
 
-fn usr1() -> io::Result<Signal> {
-    match Signal::new(10) {
-        Some(usr1) => Ok(usr1),
-        None => Err(io::ErrorKind::Other.into()),
+/// USR1, and the least real-time signal.
+fn caught() -> io::Result<[Signal; 2]> {
+    match (Signal::new(10), Signal::new(34)) {
+        (Some(usr1), Some(queued)) => Ok([usr1, queued]),
+        _ => Err(io::ErrorKind::Other.into()),
     }
 }
 
-/// A kernel of this shape; each group catches USR1.
+/// A kernel of this shape; each group catches USR1 and signal 34.
 pub fn kernel(alloc: Global, shape: Shape) -> io::Result<Kernel> {
-    match Kernel::new(alloc, start(alloc, usr1()?, shape)?) {
+    match Kernel::new(alloc, start(alloc, caught()?, shape)?) {
         Ok(kernel) => Ok(kernel),
         Err(_) => Err(io::ErrorKind::Other.into()),
     }
@@ -66,7 +72,7 @@ pub fn kernel(alloc: Global, shape: Shape) -> io::Result<Kernel> {
 
 /// A table of this shape.
 pub fn table(alloc: Global, shape: Shape) -> io::Result<Table> {
-    let start = start(alloc, usr1()?, shape)?;
+    let start = start(alloc, caught()?, shape)?;
     if !start.is_good() {
         return Err(io::ErrorKind::Other.into());
     }
