@@ -11,6 +11,7 @@ closed, full, no file or left by their reader, an input that has no end, and the
 the place of each. The last line is 'N passed, M failed'.
 """
 
+import concurrent.futures
 import errno
 import os
 import pathlib
@@ -121,13 +122,14 @@ def on_spoiled_inputs(program, words, given):
         yield f"{words[0]}, {what}", "" if is_told(ran, 1, told) else f"it ended otherwise: {ran}"
 
 
-def all_runs(program, library):
+def searches(program, library):
+    """Yields searches, which can go side by side."""
     for case in cases():
-        yield from broken_in_turn(program, library, case)
+        yield broken_in_turn, (library, case)
         name, words, given, *_ = case
         if name in READERS:
-            yield from on_shell_devices(program, words, given)
-            yield from on_spoiled_inputs(program, words, given)
+            yield on_shell_devices, (words, given)
+            yield on_spoiled_inputs, (words, given)
 
 
 def main(program):
@@ -136,10 +138,12 @@ def main(program):
         library = f"{room}/breaking.so"
         source = str(TOP / "tests" / "breaking.c")
         subprocess.run(["cc", "-shared", "-fPIC", "-O1", "-o", library, source], check=True)
-        for name, why in all_runs(program, library):
-            passed, failed = passed + (not why), failed + bool(why)
-            if why:
-                print(f"{name}: {why}")
+        with concurrent.futures.ThreadPoolExecutor(os.cpu_count()) as pool:
+            for found in pool.map(lambda search: list(search[0](program, *search[1])), searches(program, library)):
+                for name, why in found:
+                    passed, failed = passed + (not why), failed + bool(why)
+                    if why:
+                        print(f"{name}: {why}")
     print(f"{passed} passed, {failed} failed")
     return 1 if failed or not passed else 0
 

@@ -13,6 +13,7 @@ changed. Whichever allocation is refused, it has to print what it prints where n
 refused to each kind of call that makes an entry. The last line is 'N passed, M failed'.
 """
 
+import concurrent.futures
 import os
 import pathlib
 import subprocess
@@ -48,27 +49,37 @@ def fault(ran, out, err, status):
 
 
 def tried(program, library, mode, words, given, out, err, status):
-    """Refuses in turn, and yields what is wrong with each run."""
-    number, refused = 0, True
+    """Refuses in turn, and gives what is wrong with each run."""
+    found, refused = [], True
     while refused:
-        number += 1
-        refusing = {"LD_PRELOAD": library, "REFUSE_AT": str(number), **MODES[mode]}
+        refusing = {"LD_PRELOAD": library, "REFUSE_AT": str(len(found) + 1), **MODES[mode]}
         ran, refused = run(program, words, given, refusing)
-        yield number, fault(ran, out, err, status)
+        found.append(fault(ran, out, err, status))
+    return found
 
 
 def made_again(program, library):
-    """Refuses in turn to the program that makes a refused call again, and yields what is wrong with each run."""
+    """Refuses in turn to the program that makes a refused call again, and gives what is wrong with each run."""
     text = subprocess.run([program], capture_output=True, check=True, timeout=SECONDS).stdout
     wanted = {line.split(":")[0] for line in text.decode().splitlines() if "entries" in line} - READS
-    number, refused = 0, True
+    found, refused = [], True
     while refused:
-        number += 1
-        ran, refused = run(program, [], b"", {"LD_PRELOAD": library, "REFUSE_AT": str(number)})
+        ran, refused = run(program, [], b"", {"LD_PRELOAD": library, "REFUSE_AT": str(len(found) + 1)})
         wanted -= {line.removeprefix("refused to ") for line in ran.stderr.decode().splitlines()}
         is_same = (ran.returncode, ran.stdout) == (0, text)
-        yield number, "" if is_same else f"it ended with status {ran.returncode} and printed {ran.stdout!r}"
-    yield number, f"nothing was ever refused to {', '.join(sorted(wanted))}" if wanted else ""
+        found.append("" if is_same else f"it ended with status {ran.returncode} and printed {ran.stdout!r}")
+    found.append(f"nothing was ever refused to {', '.join(sorted(wanted))}" if wanted else "")
+    return found
+
+
+def searches(program, again, library):
+    """Yields what is to be refused to, and the search that does so."""
+    yield again, lambda: made_again(again, library)
+    for name, *case in cases():
+        if name.startswith("examples/explore/") or name.startswith("docs/pictures/") and name != "docs/pictures/question.svg":
+            continue
+        for mode in MODES:
+            yield f"{name}, {mode}", lambda mode=mode, case=case: tried(program, library, mode, *case)
 
 
 def main(program, again):
@@ -77,18 +88,13 @@ def main(program, again):
         library = f"{room}/refusing.so"
         source = str(TOP / "tests" / "refusing.c")
         subprocess.run(["cc", "-shared", "-fPIC", "-O1", "-o", library, source, "-ldl"], check=True)
-        for name, words, given, out, err, status in cases():
-            if name.startswith("examples/explore/") or name.startswith("docs/pictures/") and name != "docs/pictures/question.svg":
-                continue
-            for mode in MODES:
-                for number, why in tried(program, library, mode, words, given, out, err, status):
-                    passed, failed = passed + (not why), failed + bool(why)
+        names, tries = zip(*searches(program, again, library))
+        with concurrent.futures.ThreadPoolExecutor(os.cpu_count()) as pool:
+            for name, found in zip(names, pool.map(lambda search: search(), tries)):
+                passed, failed = passed + found.count(""), failed + len(found) - found.count("")
+                for number, why in enumerate(found, 1):
                     if why:
-                        print(f"{name}, {mode} refused at {number}: {why}")
-        for number, why in made_again(again, library):
-            passed, failed = passed + (not why), failed + bool(why)
-            if why:
-                print(f"{again}, refused at {number}: {why}")
+                        print(f"{name}, refused at {number}: {why}")
     print(f"{passed} passed, {failed} failed")
     return 1 if failed or not passed else 0
 
