@@ -1,6 +1,8 @@
 -- The picture of a run, from its parts.
-use Rattle.std.proofs.Common.{◌≡◌, ◌+◌, ◌∙◌, ℕ, true, false, if◌then◌else◌, List, [], ◌∷◌, ◌++◌, ap, sym, codes, decimal, length, map, IfOk, OnOk, Result, Ok, Err}
+use Rattle.std.proofs.Common.{◌≡◌, ◌+◌, ◌<◌, ◌≤◌, ◌∙◌, ℕ, append-nil, arith, nat_lt, refl, true, false, if◌then◌else◌, List, [], ◌∷◌, ◌++◌, ap, sym, codes, decimal, length, map, IfOk, OnOk, Result, Ok, Err}
+use Rattle.std.proofs.lemmas.Bool.Decides.{nat_tests}
 use Rattle.std.specs.declared.alloc.AllocError.{AllocError}
+use Rattle.std.specs.Str.{bytes_eq}
 use Rattle.tr_model.specs.declared.fates.Totals.{Totals}
 use Rattle.tr_model.specs.declared.rows.Target.{Target}
 use Rattle.tr_model.specs.Journals.{totals}
@@ -23,8 +25,8 @@ use Rattle.tr_picture.specs.declared.layouts.Layout.{Layout}
 use Rattle.tr_picture.specs.declared.pictures.Facts.{Facts}
 use Rattle.tr_picture.specs.declared.styles.Style.TheVariants as style
 use Rattle.tr_picture.specs.Actors.{job_actors}
-use Rattle.tr_picture.specs.Drawn.{Drawn, begun, blank, closed, counted, drawn, is_full, shown, with_answer, with_answered, with_call, with_groups, with_row, with_start_row}
-use Rattle.tr_picture.specs.Elements.{Elements, Open, all, escaped, printed, rect, token_pieces, words}
+use Rattle.tr_picture.specs.Drawn.{Drawn, begun, blank, closed, counted, drawn, shown, times_note, with_answer, with_answered, with_call, with_groups, with_new_row, with_row, with_start_row}
+use Rattle.tr_picture.specs.Elements.{Elements, Open, all, escaped, none as no_elements, printed, rect, token_pieces, words}
 use Rattle.tr_picture.specs.Cells.{cells}
 use Rattle.tr_picture.specs.Layouts.{lanes_left}
 use Rattle.tr_picture.specs.Rows.{moved_down, row_inside}
@@ -84,12 +86,29 @@ start_row_is e d T p1 p2 text left lanes is at are h1 h2 h3 =
     ap (λ t. record e { text = t }) (pushed_tag e.text p1 p2 text (codes "g") (moved_down 92) (cells true (lanes_left e.layout) T e.layout.lanes) h1 (h2 ∙ (λ i. p1 ++ printed (cells true (at i) T (are i)))) h3)
     ∙ ap (λ (x : Drawn). with_start_row x T) is
 
-pub shown_is : {X : Type 0} (d v after : Drawn) (line cleared pushed bytes : List ℕ) (n k raised : ℕ) (T U : Table) (c : Call) (x : Answer) (r : Result X AllocError) → is_full d ≡ false → v ≡ d → cleared ≡ [] → n ≡ k → U ≡ T →
+-- where there are 200 rows, and the last one is of no call more, there is none that a call may have
+pub row_is_lost : (d : Drawn) (inside : List ℕ) → 200 ≤ d.rows → length d.last ≡ 0 → d.times ≡ 0 → 0 < length inside → with_row d inside ≡ record d { lost = d.lost + 1 }
+row_is_lost d inside full empty once some =
+    let e : d.last ≡ [] = void d.last empty in
+    let differ : bytes_eq inside d.last ≡ false = ap (bytes_eq inside) e ∙ unlike inside some in
+    let below : nat_lt d.rows 200 ≡ false = grind (arith, nat_tests) in
+    let note : times_note d.rows d.times ≡ no_elements = ap (times_note d.rows) once in
+    (λ i. if differ i then record d { times = d.times + 1 } else if below i then with_new_row (closed d) inside else record d { times = 0; last = []; lost = d.lost + 1; text = d.text ++ printed (note i) })
+    ∙ (λ i. record d { times = sym once i; last = sym e i; lost = d.lost + 1; text = append-nil d.text i })
+  where
+    void : (xs : List ℕ) → length xs ≡ 0 → xs ≡ []
+    void [] h = refl
+    void (x ∷ xs) h = absurd (omega (arith, h))
+    unlike : (xs : List ℕ) → 0 < length xs → bytes_eq xs [] ≡ false
+    unlike [] h = absurd (omega (arith, h))
+    unlike (x ∷ xs) h = refl
+
+pub shown_is : {X : Type 0} (d v after : Drawn) (line cleared pushed bytes : List ℕ) (n k raised : ℕ) (T U : Table) (c : Call) (x : Answer) (r : Result X AllocError) → v ≡ d → cleared ≡ [] → n ≡ k → U ≡ T →
     pushed ≡ cleared ++ printed (row_inside v.layout line n raised U c x) → bytes ≡ pushed → OnOk r (after ≡ with_row d bytes) → OnOk r (after ≡ shown d line k raised T c x)
-shown_is d v after line cleared pushed bytes n k raised T U c x (Ok y) free same none is_n is_T h is_b row =
+shown_is d v after line cleared pushed bytes n k raised T U c x (Ok y) same none is_n is_T h is_b row =
     let inside : bytes ≡ printed (row_inside d.layout line k raised T c x) = is_b ∙ h ∙ (λ i. none i ++ printed (row_inside (same i).layout line (is_n i) raised (is_T i) c x)) in
-    row ∙ ap (λ b. with_row d b) inside ∙ ap (λ b. if b then record d { lost = d.lost + 1 } else with_row d (printed (row_inside d.layout line k raised T c x))) (sym free)
-shown_is d v after line cleared pushed bytes n k raised T U c x (Err e) free same none is_n is_T h is_b row = tt
+    row ∙ ap (λ b. with_row d b) inside
+shown_is d v after line cleared pushed bytes n k raised T U c x (Err e) same none is_n is_T h is_b row = tt
 
 pub called_is : (d h v after : Drawn) (line : List ℕ) (k m raised : ℕ) (T : Table) (c : Call) (x : Answer) → h ≡ with_answer d x → after ≡ shown h line k raised T c x → v ≡ after → m ≡ v.calls + 1 → record v { calls = m } ≡ with_call d line k raised T c x
 called_is d h v after line k m raised T c x heard show same more =

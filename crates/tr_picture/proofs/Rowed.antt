@@ -1,5 +1,5 @@
 -- The row of a call, from its parts.
-use Rattle.std.proofs.Common.{◌≡◌, ◌∙◌, ℕ, Bool, List, [], ◌∷◌, ◌++◌, Option, ap, append-nil, sym, codes}
+use Rattle.std.proofs.Common.{◌≡◌, ◌∙◌, ℕ, Bool, List, [], ◌∷◌, ◌++◌, ◌<◌, Option, ap, arith, length, append-nil, sym, codes}
 use Rattle.tr_model.specs.declared.rows.Target.{Target}
 use Rattle.tr_model.specs.Runs.{Answer, Call}
 use Rattle.tr_model.specs.Tables.{Table}
@@ -51,3 +51,6 @@ row_filled old p1 p2 p3 new L line n r r_after T c x told left lanes actor lane 
     (pushed_both p1 p2 new b (all (d ∷ e ∷ [])) (h2 ∙ (λ i. p1 ++ printed (cells (e1 i) (e2 i) T (e3 i))))
     (pushed_both p2 p3 new d (all (e ∷ [])) (h3 ∙ ap (λ (k : ℕ). p2 ++ printed (row_words n r k c x)) e4)
     (pushed_last p3 new e (h4 ∙ (λ i. p3 ++ printed (marks c.event x (e5 i) (e6 i)))))))
+
+pub row_is_something : (L : Layout) (line : List ℕ) (n r : ℕ) (T : Table) (c : Call) (x : Answer) → 0 < length (printed (row_inside L line n r T c x))
+row_is_something L line n r T c x = omega arith

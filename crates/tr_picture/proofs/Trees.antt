@@ -14,7 +14,7 @@ use Rattle.tr_scenario.specs.RunTexts.{call_text, state_after, unanswered}
 use Rattle.tr_scenario.specs.Serial.{job_calls}
 use Rattle.tr_picture.specs.declared.pictures.Facts.{Facts}
 use Rattle.tr_picture.specs.Actors.{job_actors}
-use Rattle.tr_picture.specs.Drawn.{Drawn, actor_heads, begun, blank, closed, drawn, group_head, is_full, placed, start_row, thread_head, times_note, with_answer, with_answered, with_elements, with_group, with_groups, with_row, with_thread, with_threads}
+use Rattle.tr_picture.specs.Drawn.{Drawn, actor_heads, begun, blank, closed, drawn, group_head, placed, start_row, thread_head, times_note, with_answer, with_answered, with_elements, with_group, with_groups, with_row, with_thread, with_threads}
 use Rattle.tr_picture.specs.Draws.{ArePictures}
 use Rattle.tr_picture.specs.Elements.{Elements, Open, both, none, printed, tag, token_pieces}
 use Rattle.tr_picture.specs.Layouts.{has_lane, lanes_right}
@@ -100,7 +100,7 @@ answered_kept : (d : Drawn) (s after : State) (c : Call) (xs : List Answer) → 
 answered_kept d s after c [] a = a
 answered_kept d s after c (x ∷ xs) a =
     let h = with_answer d x in
-    one_of (is_full h) _ _ (answer_kept d x a) (row_kept h _ (of (row_inside h.layout (call_text s c) (length after.journal) s.table.raised after.table c x)) (answer_kept d x a))
+    row_kept h _ (of (row_inside h.layout (call_text s c) (length after.journal) s.table.raised after.table c x)) (answer_kept d x a)
 
 drawn_kept : (d : Drawn) (s : State) (c : Call) → IsText d.text → IsText (drawn d s c).text
 unfolding drawn

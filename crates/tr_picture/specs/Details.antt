@@ -1,5 +1,8 @@
 -- What a call says beside whom it is about and which signal it names.
 use Rattle.std.specs.Prelude.{ℕ, List, [], ◌∷◌, Bool, true, false, codes, decimal}
+use Rattle.std.specs.Fmt.{signed_decimal}
+use Rattle.tr_sigset.specs.Sets.{has}
+use Rattle.tr_lanes.specs.Digits.{set_digits}
 use Rattle.tr_wait.specs.declared.waits.Which.{Which}
 use Rattle.tr_wait.specs.declared.waits.Which.TheVariants.{Any, One}
 use Rattle.tr_tracee.specs.declared.thread.Options.{Options}
@@ -39,4 +42,6 @@ detail (event.StarterWait which flags) = detail_line (which_words which)
 detail (event.Seize id o) = detail_line (option_words o)
 detail (event.SetOptions id o) = detail_line (option_words o)
 detail (event.SetAction id s how) = detail_line (action_word how ∷ [])
+detail (event.Sigqueue g s v) = detail_line (codes "value " ∷ signed_decimal v ∷ [])
+detail (event.Mask id set) = detail_line (codes "blocks " ∷ set_digits (has set) ∷ [])
 detail _ = none

@@ -123,13 +123,9 @@ with_answer d x = d
 abbrev pub counted : Drawn → Drawn
 counted d = record d { calls = d.calls + 1 }
 
--- there are 200 rows, and a call came that is in none of them
-abbrev pub is_full : Drawn → Bool
-is_full d = if nat_lt d.rows 200 then false else length d.last == 0
-
--- the row of a call, if it may have one
+-- the row of a call
 abbrev pub shown : Drawn → List ℕ → ℕ → ℕ → Table → Call → Answer → Drawn
-shown d line n raised T c x = if is_full d then record d { lost = d.lost + 1 } else with_row d (printed (row_inside d.layout line n raised T c x))
+shown d line n raised T c x = with_row d (printed (row_inside d.layout line n raised T c x))
 
 -- a call with its line, after which there are so many entries, and before which there were so many reports
 abbrev pub with_call : Drawn → List ℕ → ℕ → ℕ → Table → Call → Answer → Drawn

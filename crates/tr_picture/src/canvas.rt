@@ -1,8 +1,8 @@
-ghost use Rattle.std.specs.Prelude.{◌≡◌, ◌≤◌, ◌<◌, ◌+◌, ◌++◌, ◌^◌, ◌∷◌, [], IfOk, OnOk, codes, decimal, length};
+ghost use Rattle.std.specs.Prelude.{◌≡◌, ◌≤◌, ◌<◌, ◌+◌, ◌++◌, ◌^◌, ◌∷◌, [], IfOk, IsTrue, OnOk, codes, decimal, length};
 ghost use Rattle.std.specs.Str.{bytes_eq};
 ghost use Rattle.tr_workers.specs.Follows.{heard};
 ghost use Rattle.tr_scenario.specs.RunTexts.{call_of};
-ghost use Rattle.tr_picture.specs.Drawn.{Drawn, actor_head, actor_heads, blank, closed, group_head, is_full, placed, shown, thread_head, times_note, with_answer, with_call, with_group, with_groups, with_new_row, with_row, with_start_row, with_thread, with_threads};
+ghost use Rattle.tr_picture.specs.Drawn.{Drawn, actor_head, actor_heads, blank, closed, group_head, placed, shown, thread_head, times_note, with_answer, with_call, with_group, with_groups, with_new_row, with_row, with_start_row, with_thread, with_threads};
 ghost use Rattle.tr_picture.specs.declared.styles.Style.TheVariants.{Ink};
 ghost use Rattle.tr_picture.specs.Elements.{printed, words};
 ghost use Rattle.tr_picture.specs.Layouts.{IsLaidOut};
@@ -38,7 +38,7 @@ pub(crate) struct Canvas {
 }
 
 impl Model for Canvas {
-    ghost use Rattle.std.specs.Prelude.{◌≤◌};
+    ghost use Rattle.std.specs.Prelude.{◌≡◌, ◌≤◌, length};
     ghost use Rattle.tr_picture.specs.Drawn.{Drawn};
     ghost use Rattle.tr_picture.specs.Layouts.{IsLaidOut};
 
@@ -54,7 +54,8 @@ impl Model for Canvas {
       text = c.page;
     } };
 
-    ghost invariant = { λ c. IsLaidOut c.layout × (c.rows ≤ 200) };
+    ghost invariant = { λ c.
+        IsLaidOut c.layout × (c.rows ≤ 200) × (length c.last ≡ 0 → c.times ≡ 0) };
 }
 
 /// Counts one more. What can't be counted has no memory either.
@@ -242,11 +243,13 @@ impl Canvas {
 
     /// Draws a row, in which there is this.
     fn push_new_row(&mut self, inside: &[u8]) -> Result<(), AllocError>
-        requires { self.old.rows < 200 }
+        requires rows { self.old.rows < 200 }
+        requires some { 0 < length inside.now }
         ensures { OnOk result (self.new ≡ with_new_row self.old inside.now) }
     {
         push_placed(&mut self.page, self.rows, inside)?;
         self.last.clear();
+        self.times = 0;
         self.last.push(inside)?;
         self.rows += 1;
         self.times = 1;
@@ -255,6 +258,7 @@ impl Canvas {
 
     /// Draws a row, unless it is as the last one, or there are 200.
     fn push_row(&mut self, inside: &[u8]) -> Result<(), AllocError>
+        requires { 0 < length inside.now }
         ensures { OnOk result (self.new ≡ with_row self.old inside.now) }
     {
         if is_same(inside, self.last.as_bytes()) {
@@ -282,15 +286,14 @@ impl Canvas {
         self.add_thread(tid)
     }
 
-    /// Whether no further call may have a row.
+    /// Whether no further call can have a row, so that none needs to be composed.
     fn is_full(&self) -> bool
-        ensures { result ≡ is_full self.now }
+        ensures { IsTrue result
+            → (inside : _)
+            → 0 < length inside
+            → with_row self.now inside ≡ record self.now { lost = self.now.lost + 1 } }
     {
-        if self.rows < MOST_ROWS {
-            false
-        } else {
-            self.last.len() == 0
-        }
+        self.rows >= MOST_ROWS && self.last.len() == 0
     }
 
     /// Draws the row of a call that was made, if it may have one.

@@ -1,4 +1,7 @@
 ghost use Rattle.std.specs.Prelude.{◌≡◌, ◌∷◌, ◌++◌, [], OnOk, codes, decimal};
+ghost use Rattle.std.specs.Fmt.{signed_decimal};
+ghost use Rattle.tr_sigset.specs.Sets.{has};
+ghost use Rattle.tr_lanes.specs.Digits.{set_digits};
 ghost use Rattle.tr_picture.specs.Details.{action_word, detail, detail_line, option_word, option_words, which_words};
 ghost use Rattle.tr_picture.specs.Elements.{printed};
 
@@ -7,8 +10,11 @@ use crate::styles::Style;
 use itoa::Buffer;
 use std::alloc::AllocError;
 use tr_group::Action;
+use tr_lanes::hex16;
 use tr_model::Event;
 use tr_scenario::Page;
+use tr_sigset::SigSet;
+use tr_text::TextBuffer;
 use tr_tracee::Options;
 use tr_wait::Which;
 
@@ -51,6 +57,31 @@ fn push_action(page: &mut Page, action: Action) -> Result<(), AllocError>
     push_words(page, Style::Dim, 64, 30, &pieces)
 }
 
+/// Appends the value that a signal is queued with.
+fn push_value(page: &mut Page, value: i32) -> Result<(), AllocError>
+    ensures { OnOk result (page.new
+        ≡ page.old ++ printed (detail_line (codes "value " ∷ signed_decimal value ∷ []))) }
+{
+    let mut digits = TextBuffer::<32>::new();
+    digits.prepend_signed(value);
+    push_words(page, Style::Dim, 64, 30, &[b"value ", digits.as_bytes()])
+}
+
+/// Appends which signals a thread blocks, as `/proc` has masks.
+fn push_mask(page: &mut Page, set: SigSet) -> Result<(), AllocError>
+    ensures { OnOk result (page.new
+        ≡ page.old ++ printed (detail_line (codes "blocks " ∷ set_digits (has set) ∷ []))) }
+{
+    let digits = mask_digits(set);
+    push_words(page, Style::Dim, 64, 30, &[b"blocks ", &digits])
+}
+
+fn mask_digits(set: SigSet) -> [u8; 16]
+    ensures { result ≡ set_digits (has set) }
+{
+    hex16(set.bits())
+}
+
 fn option_word(is_set: bool, word: &'static str) -> &'static str
     ensures { result.now ≡ option_word is_set word.now }
 {
@@ -71,8 +102,8 @@ fn push_options(page: &mut Page, options: Options) -> Result<(), AllocError>
     push_words(page, Style::Dim, 64, 30, &pieces)
 }
 
-/// Appends what a call says beside whom it is about and which signal it names: its code, for whom it waits, its options or
-/// its action.
+/// Appends what a call says beside whom it is about and which signal it names: its code, for whom it waits, its options, its
+/// action, its value or its mask.
 pub(crate) fn push_detail(page: &mut Page, event: &Event) -> Result<(), AllocError>
     ensures { OnOk result (page.new ≡ page.old ++ printed (detail event.now)) }
 {
@@ -84,6 +115,8 @@ pub(crate) fn push_detail(page: &mut Page, event: &Event) -> Result<(), AllocErr
         Event::Seize { options, .. } => push_options(page, *options),
         Event::SetOptions { options, .. } => push_options(page, *options),
         Event::SetAction { how, .. } => push_action(page, *how),
+        Event::Sigqueue { value, .. } => push_value(page, *value),
+        Event::Mask { set, .. } => push_mask(page, *set),
         _ => Ok(()),
     }
 }
