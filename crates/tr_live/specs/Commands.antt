@@ -64,6 +64,10 @@ command_of d = command_in (get (codes "show") d) d
 
 -- Lines
 
+-- the most bytes of a line
+abbrev pub longest : ℕ
+longest = 65536
+
 -- what f reads of a line of at most 65,536 bytes, or its first fault
 unfoldable pub line_read : {A : Type 0} → (Data → Result A ScenarioFault) → List ℕ → Result A ScenarioFault
-line_read f line = if nat_le (length line) 65536 then (json_of line >>= f) else Err TooLarge
+line_read f line = if nat_le (length line) longest then (json_of line >>= f) else Err TooLarge

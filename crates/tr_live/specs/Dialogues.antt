@@ -19,9 +19,11 @@ use Rattle.tr_scenario.specs.Kernels.{so_far}
 use Rattle.tr_scenario.specs.Lines.{totals_line}
 use Rattle.tr_scenario.specs.Replies.{refusal_text}
 use Rattle.tr_scenario.specs.RunTexts.{call_of, call_text, calls_text, state_after}
+use Rattle.tr_mistakes.specs.Texts.{mistake_in}
 use Rattle.tr_live.specs.declared.commands.Command.{Command}
 use Rattle.tr_live.specs.declared.commands.Command.TheVariants.{Make, ShowStatus, ShowTable, ShowTotals}
-use Rattle.tr_live.specs.Commands.{command_of, line_read, opening_of}
+use Rattle.tr_live.specs.Commands.{command_of, line_read, longest, opening_of}
+use Rattle.tr_live.specs.Mistakes.{command_mistake, opening_mistake}
 
 -- What a dialogue is about
 
@@ -54,9 +56,9 @@ pub record Answer : Type 0 where
   pub text : List ℕ
   pub session : Option Session
 
--- a fault is answered by its name
-abbrev pub refused_line : ScenarioFault → List ℕ
-refused_line e = texts (codes "refused " ∷ scenario_fault_name e ∷ codes "\n" ∷ [])
+-- a fault is answered by its name, and by what is told of the line
+abbrev pub refused_line : ScenarioFault → List ℕ → List ℕ
+refused_line e told = texts (codes "refused " ∷ scenario_fault_name e ∷ told ∷ codes "\n" ∷ [])
 
 -- the status of a thread; where there is none, ESRCH
 abbrev pub status_or_refusal : Table → Option Thread → List ℕ
@@ -84,19 +86,19 @@ obeyed s ShowTable = record { text = table_text s.run.table s.run.table.threads;
 obeyed s ShowTotals = record { text = totals_line (totals_of s); session = Some s }
 
 -- a line that is refused changes nothing
-abbrev pub commanded : Session → Result Command ScenarioFault → Answer
-commanded s (Err e) = record { text = refused_line e; session = Some s }
-commanded s (Ok c) = obeyed s c
+abbrev pub commanded : Session → List ℕ → Result Command ScenarioFault → Answer
+commanded s told (Err e) = record { text = refused_line e told; session = Some s }
+commanded s told (Ok c) = obeyed s c
 
 -- a kernel is opened, or the line is refused
-abbrev pub opened : Result Start ScenarioFault → Answer
-opened (Err e) = record { text = refused_line e; session = None }
-opened (Ok s) = record { text = codes "started\n"; session = Some (begun s) }
+abbrev pub opened : List ℕ → Result Start ScenarioFault → Answer
+opened told (Err e) = record { text = refused_line e told; session = None }
+opened told (Ok s) = record { text = codes "started\n"; session = Some (begun s) }
 
 -- the first line that isn't refused opens a kernel, and those after it command it
 abbrev pub answer : Option Session → List ℕ → Answer
-answer None line = opened (line_read opening_of line)
-answer (Some s) line = commanded s (line_read command_of line)
+answer None line = opened (mistake_in opening_mistake longest line) (line_read opening_of line)
+answer (Some s) line = commanded s (mistake_in command_mistake longest line) (line_read command_of line)
 
 -- an empty line stands behind each answer
 abbrev pub answer_text : Option Session → List ℕ → List ℕ
@@ -106,7 +108,7 @@ answer_text s line = (answer s line).text ++ codes "\n"
 
 -- one byte more; of a line that is too long no more are kept than show it
 abbrev pub longer : List ℕ → ℕ → List ℕ
-longer line b = if nat_le (length line) 65536 then line ++ b ∷ [] else line
+longer line b = if nat_le (length line) longest then line ++ b ∷ [] else line
 
 -- after a byte: a newline ends the line
 abbrev pub heard_byte : Dialogue → ℕ → Dialogue

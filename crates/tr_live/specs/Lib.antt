@@ -1,3 +1,4 @@
 pub mod Commands
 pub mod Conversations
 pub mod Dialogues
+pub mod Mistakes

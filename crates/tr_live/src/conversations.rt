@@ -13,7 +13,8 @@ const INTERRUPTIONS: usize = 1048576;
 ///
 /// A line is a JSON object of at most 65,536 bytes: the first a scenario without steps, which opens a kernel, each after it a
 /// step, or one with `show`, which asks for a status, the table or the totals. The calls of a step are answered as `serial`
-/// prints them. A line that is refused is answered by its fault, and changes nothing. An empty line stands behind each answer.
+/// prints them. A line that is refused is answered by its fault, its first mistake and where that stands, and changes nothing.
+/// An empty line stands behind each answer.
 /// `NoMemory`, `WriteFault`, `ReadFault`, also after 1,048,576 interruptions, and `TooLarge`, once 2^63 bytes or more came,
 /// end the dialogue.
 pub fn converse<R: Source, W: Sink>(

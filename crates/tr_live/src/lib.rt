@@ -4,6 +4,7 @@
 mod commands;
 mod conversations;
 mod dialogues;
+mod mistakes;
 mod replies;
 
 pub use commands::Command;

@@ -4,12 +4,16 @@ ghost use Rattle.tr_scenario.specs.declared.faults.ScenarioFault.TheVariants.{No
 ghost use Rattle.tr_scenario.specs.Lines.{totals_line};
 ghost use Rattle.tr_scenario.specs.Printing.{Fills};
 ghost use Rattle.tr_live.specs.declared.commands.Command.TheVariants.{Make};
-ghost use Rattle.tr_live.specs.Commands.{command_of, line_read, opening_of};
+ghost use Rattle.tr_mistakes.specs.Texts.{mistake_in};
+ghost use Rattle.tr_live.specs.Commands.{command_of, line_read, longest, opening_of};
+ghost use Rattle.tr_live.specs.Mistakes.{command_mistake, opening_mistake};
 ghost use Rattle.tr_live.specs.Dialogues.{answer, commanded, obeyed, opened, refused_line, session_of, status_or_refusal, table_text, totals_of};
 
-use crate::commands::{Command, read_command, read_opening};
+use crate::commands::{Command, LONGEST, read_command, read_opening};
+use crate::mistakes::Opening;
 use std::alloc::{AllocError, Global};
 use tr_kernel::Kernel;
+use tr_mistakes::{Mistaken, push_mistake};
 use tr_model::Refusal;
 use tr_scenario::{
     LineBuffer, Lines, Page, ScenarioFault, compose_totals, fill_calls, open, refusal_text,
@@ -53,9 +57,9 @@ fn push_opening(
     page: &mut Page,
 ) -> Result<Option<Kernel>, ScenarioFault>
     ensures text { OnOk result (page.new
-        ≡ page.old ++ (opened (line_read opening_of line.now)).text) }
+        ≡ page.old ++ (opened (mistake_in opening_mistake longest line.now) (line_read opening_of line.now)).text) }
     ensures session { IfOk result (λ k. option_map session_of k
-        ≡ (opened (line_read opening_of line.now)).session) }
+        ≡ (opened (mistake_in opening_mistake longest line.now) (line_read opening_of line.now)).session) }
     ensures err { IfErr result (λ e. e ≡ NoMemory) }
 {
     match read_opening(alloc, line) {
@@ -66,7 +70,7 @@ fn push_opening(
         }
         Err(ScenarioFault::NoMemory) => Err(ScenarioFault::NoMemory),
         Err(fault) => {
-            push_refused(page, fault)?;
+            push_refused::<Opening>(alloc, page, fault, line)?;
             Ok(None)
         }
     }
@@ -82,9 +86,11 @@ fn fill_command<W: Sink>(
 ) -> Result<(), ScenarioFault>
     requires { W.failures writer.old < 2 ^ 64 - 1 }
     ensures fills { Fills W.taken W.failures writer.old writer.new page.old page.new
-        (commanded (session_of kernel.old) (line_read command_of line.now)).text result }
+        (commanded (session_of kernel.old) (mistake_in command_mistake longest line.now)
+        (line_read command_of line.now)).text result }
     ensures session { OnOk result (Some (session_of kernel.new)
-        ≡ (commanded (session_of kernel.old) (line_read command_of line.now)).session) }
+        ≡ (commanded (session_of kernel.old) (mistake_in command_mistake longest line.now)
+        (line_read command_of line.now)).session) }
 {
     match read_command(alloc, line) {
         Ok(Command::Make(step)) => fill_calls::<Lines, W>(kernel, &step, page, writer),
@@ -93,7 +99,7 @@ fn fill_command<W: Sink>(
             Err(AllocError) => Err(ScenarioFault::NoMemory),
         },
         Err(ScenarioFault::NoMemory) => Err(ScenarioFault::NoMemory),
-        Err(fault) => match push_refused(page, fault) {
+        Err(fault) => match push_refused::<Command>(alloc, page, fault, line) {
             Ok(()) => Ok(()),
             Err(AllocError) => Err(ScenarioFault::NoMemory),
         },
@@ -115,15 +121,20 @@ fn push_shown(page: &mut Page, kernel: &Kernel, command: Command) -> Result<(), 
     }
 }
 
-/// Appends that a line is refused for a fault.
-fn push_refused(page: &mut Page, fault: ScenarioFault) -> Result<(), AllocError>
-    ensures { OnOk result (page.new ≡ page.old ++ refused_line fault) }
+/// Appends that a line is refused for a fault, and its first mistake.
+fn push_refused<T: Mistaken>(
+    alloc: Global,
+    page: &mut Page,
+    fault: ScenarioFault,
+    line: &[u8],
+) -> Result<(), AllocError>
+    ensures { OnOk result
+        (page.new ≡ page.old ++ refused_line fault (mistake_in T.mistake longest line.now)) }
 {
-    let mut line = LineBuffer::new();
-    line.prepend(b"\n");
-    line.prepend(fault.name().as_bytes());
-    line.prepend(b"refused ");
-    page.push(line.as_bytes())
+    page.push(b"refused ")?;
+    page.push(fault.name().as_bytes())?;
+    push_mistake::<T>(alloc, page, LONGEST, line)?;
+    page.push(b"\n")
 }
 
 /// Appends the status of the thread with an id, or that there is none.

@@ -65,7 +65,7 @@ fn refused_lines_change_nothing(rt: HostRuntime) -> Result<(), Fail> {
             "{\"show\":\"totals\",\"tid\":10}\n",
             KILL,
         ],
-        "refused BadField\n\nstarted\n\nrefused BadField\n\nrefused NotJson\n\nrefused BadField\n\nrefused BadField\n\nrefused ESRCH 3\n\nrefused BadField\n\n#1 900 kill sent 1 flushed\n\n",
+        "refused BadField: version: is missing\n\nstarted\n\nrefused BadField: actor: is missing\n\nrefused NotJson\n\nrefused BadField: sig: a whole number from 0 to 255 is wanted\n\nrefused BadField: show: `status`, `totals` or `table` is wanted\n\nrefused ESRCH 3\n\nrefused BadField: the key `tid` isn't known here\n\n#1 900 kill sent 1 flushed\n\n",
     );
     Ok(())
 }
@@ -80,7 +80,7 @@ fn start_that_no_kernel_can_have_is_refused(rt: HostRuntime) -> Result<(), Fail>
             "{\"version\":1,\"limit\":4,\"entries\":2,\"groups\":[],\"steps\":[]}\n",
             START,
         ],
-        "refused BadStart\n\nrefused Repeated\n\nrefused BadField\n\nstarted\n\n",
+        "refused BadStart: groups[0].threads[0].tid: a whole number from 2 to 4194303 is wanted\n\nrefused Repeated: thread 10 stands twice\n\nrefused BadField: the key `steps` isn't known here\n\nstarted\n\n",
     );
     Ok(())
 }
@@ -131,7 +131,7 @@ fn long_line_is_too_large(rt: HostRuntime) -> Result<(), Fail> {
     answered(
         &rt,
         &[line.as_str(), longer.as_str(), START],
-        "refused NotJson\n\nrefused TooLarge\n\nstarted\n\n",
+        "refused NotJson\n\nrefused TooLarge: more than 65536 bytes\n\nstarted\n\n",
     );
     Ok(())
 }

@@ -23,7 +23,7 @@ explains_printed taken failures old new r_old r_new bytes s (Err e) came end sou
 -- the bytes were refused, or memory was
 pub explains_refused : {K X : Type 0} (taken : K → List ℕ) (failures : K → ℕ) (old new : K) (r_old r_new : Shown) (bytes : List ℕ) (f : ScenarioFault) (r : Result X ScenarioFault) →
     Came r_old r_new bytes → (length bytes ≡ 1048577) ⊎ (r_new.ended ≡ true) → IsSound r_old r_new → (f ≡ NoMemory) ⊎ (scenario_of bytes ≡ Err f) →
-    Refuses taken failures old new f r → Explains (at r_old (taken old) (failures old)) (at r_new (taken new) (failures new)) r
+    Refuses taken failures old new bytes f r → Explains (at r_old (taken old) (failures old)) (at r_new (taken new) (failures new)) r
 explains_refused taken failures old new r_old r_new bytes f (Ok x) came end sound gives h = absurd h
 explains_refused taken failures old new r_old r_new bytes f (Err e) came end sound gives (inl h) =
     (bytes, inr (inl (record { came = came; cause = inl (h.0, sound); untouched = record { taken = ap taken h.1; failures = ap failures h.1 } })))

@@ -1,7 +1,7 @@
 -- A run that is explained, by what its reader and its writer show.
 use Rattle.std.specs.Prelude.{◌≡◌, ◌⊎◌, ℕ, true, List, [], ◌∷◌, Result, Ok, Err, codes}
 use Rattle.tr_scenario.specs.declared.faults.ScenarioFault.{ScenarioFault}
-use Rattle.tr_scenario.specs.declared.faults.ScenarioFault.TheVariants.{TooLarge}
+use Rattle.tr_scenario.specs.declared.faults.ScenarioFault.TheVariants.{NotJson, TooLarge}
 use Rattle.tr_scenario.specs.declared.scenarios.Scenario.{Scenario}
 use Rattle.tr_scenario.specs.Faults.{scenario_fault_name}
 use Rattle.tr_scenario.specs.Printing.{Prints}
@@ -9,16 +9,26 @@ use Rattle.tr_status.specs.Texts.{texts}
 use Rattle.tr_scenario.specs.Scenarios.{scenario_of}
 use Rattle.tr_scenario.specs.Serial.{Devices, IsHalted, IsUnread, IsWhole}
 use Rattle.tr_scenario.specs.Sources.{Came, IsSound}
+use Rattle.tr_mistakes.specs.Scenarios.{scenario_mistake}
+use Rattle.tr_mistakes.specs.Texts.{mistake_in, position_text}
 use Rattle.tr_reasons.specs.Explained.{explained}
 
--- the name of a fault
-abbrev pub fault_line : ScenarioFault → List ℕ
-fault_line f = texts (scenario_fault_name f ∷ codes "\n" ∷ [])
+-- what is told behind the fault's name: some line and column, as serde_json counts them, of what is no JSON; else the first
+-- mistake
+abbrev pub IsTold : List ℕ → ScenarioFault → List ℕ → Type 0
+IsTold bytes NotJson told = (line : ℕ) × (column : ℕ) × (told ≡ position_text line column)
+IsTold bytes _ told = told ≡ mistake_in scenario_mistake 1048576 bytes
+
+-- the line of a fault of these bytes
+abbrev pub IsFaultLine : List ℕ → ScenarioFault → List ℕ → Type 0
+IsFaultLine bytes f text = (told : List ℕ) × IsTold bytes f told × (text ≡ texts (scenario_fault_name f ∷ told ∷ codes "\n" ∷ []))
 
 -- the line of a fault was written, and it is told; or a front of the line, and then the run halted
-abbrev pub TellsFault : {K : Type 0} → (K → List ℕ) → (K → ℕ) → K → K → ScenarioFault → ScenarioFault → Type 0
-TellsFault taken failures old new f e =
-    ((e ≡ f) × Prints {X = Unit {0}} taken failures old new (fault_line f) (Ok tt)) ⊎ Prints {X = Unit {0}} taken failures old new (fault_line f) (Err e)
+abbrev pub TellsFault : {K : Type 0} → (K → List ℕ) → (K → ℕ) → K → K → List ℕ → ScenarioFault → ScenarioFault → Type 0
+TellsFault taken failures old new bytes f e =
+    (line : List ℕ)
+    × IsFaultLine bytes f line
+    × (((e ≡ f) × Prints {X = Unit {0}} taken failures old new line (Ok tt)) ⊎ Prints {X = Unit {0}} taken failures old new line (Err e))
 
 -- the bytes are refused, and their first fault was told
 pub record IsRefused (old new : Devices) (bytes : List ℕ) (f e : ScenarioFault) : Type 0 where
@@ -26,7 +36,7 @@ pub record IsRefused (old new : Devices) (bytes : List ℕ) (f e : ScenarioFault
   pub sound : IsSound old.reader new.reader
   pub ended : (f ≡ TooLarge) ⊎ (new.reader.ended ≡ true)
   pub fault : scenario_of bytes ≡ Err f
-  pub told : TellsFault (λ d. d.taken) (λ d. d.failures) old new f e
+  pub told : TellsFault (λ d. d.taken) (λ d. d.failures) old new bytes f e
 
 -- a run comes to its end, or its fault is one of the three
 abbrev pub Explains : {X : Type 0} → Devices → Devices → Result X ScenarioFault → Type 0

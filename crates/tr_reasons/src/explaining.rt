@@ -1,16 +1,17 @@
-ghost use Rattle.std.specs.Prelude.{◌≡◌, ◌↔◌, ◌<◌, ◌+◌, ◌-◌, ◌^◌, IfOk, IsTrue};
+ghost use Rattle.std.specs.Prelude.{◌≡◌, ◌↔◌, ℕ, List, ◌<◌, ◌+◌, ◌-◌, ◌^◌, ◌++◌, IfOk, IsTrue, OnOk};
 ghost use Rattle.tr_scenario.specs.declared.faults.ScenarioFault.TheVariants.{NoMemory};
-ghost use Rattle.tr_reasons.specs.Explains.{Explains, fault_line};
+ghost use Rattle.tr_reasons.specs.Explains.{Explains, IsFaultLine, IsTold};
 ghost use Rattle.tr_reasons.specs.Private.{Refuses};
 
 use crate::telling::Explained;
 use std::alloc::{AllocError, Global};
-use tr_scenario::{Page, ScenarioFault, Source, print_kept, read, read_all, run};
+use tr_mistakes::{push_mistake, push_position};
+use tr_scenario::{Page, Scenario, ScenarioFault, Source, print_kept, read, read_all, run};
 use tr_status::Sink;
 
 /// Reads a scenario and runs it as `tr_scenario::serial` does, and prints below the line of each call why it was refused, what
 /// it found where it made no entry, or the stop that it led to. Of an input that is refused the name of
-/// its first fault is printed, on a line of its own.
+/// its first fault is printed, where it stands, and what is wanted there, on a line of its own.
 ///
 /// The faults are those of `tr_scenario::serial`. After a `ReadFault`, or where memory is refused before the scenario is
 /// read, nothing is written; `NoMemory` and `WriteFault` else leave a front of what is to be written.
@@ -35,30 +36,52 @@ pub fn explain<R: Source, W: Sink>(
     let bytes = read_all(alloc, reader)?;
     match read(alloc, bytes.as_slice()) {
         Ok(scenario) => run::<Explained, W>(alloc, scenario, writer),
-        Err(fault) => refuse(alloc, fault, writer),
+        Err(fault) => refuse(alloc, bytes.as_slice(), fault, writer),
     }
 }
 
-/// Refuses an input, and tells its fault, unless that is want of memory.
-fn refuse<W: Sink>(alloc: Global, fault: ScenarioFault, writer: &mut W) -> Result<(), ScenarioFault>
+/// Refuses an input, and tells its fault and its first mistake, unless the fault is want of memory.
+fn refuse<W: Sink>(
+    alloc: Global,
+    bytes: &[u8],
+    fault: ScenarioFault,
+    writer: &mut W,
+) -> Result<(), ScenarioFault>
     requires { W.failures writer.old < 2 ^ 64 - 1 }
-    ensures { Refuses W.taken W.failures writer.old writer.new fault result }
+    ensures { Refuses W.taken W.failures writer.old writer.new bytes.now fault result }
 {
     if is_want_of_memory(fault) {
         return Err(fault);
     }
-    let mut line = fault_line(alloc, fault)?;
+    let mut line = fault_line(alloc, bytes, fault)?;
     print_kept(&mut line, writer)?;
     Err(fault)
 }
 
-fn fault_line(alloc: Global, fault: ScenarioFault) -> Result<Page, AllocError>
-    ensures { IfOk result (λ p. p ≡ fault_line fault) }
+fn fault_line(alloc: Global, bytes: &[u8], fault: ScenarioFault) -> Result<Page, AllocError>
+    ensures { IfOk result (λ line. IsFaultLine bytes.now fault line) }
 {
-    let mut page = Page::new(alloc);
-    page.push(fault.name().as_bytes())?;
-    page.push(b"\n")?;
-    Ok(page)
+    let mut line = Page::new(alloc);
+    line.push(fault.name().as_bytes())?;
+    push_told(alloc, &mut line, bytes, fault)?;
+    line.push(b"\n")?;
+    Ok(line)
+}
+
+/// Appends what is told of refused bytes behind the name of their fault.
+fn push_told(
+    alloc: Global,
+    line: &mut Page,
+    bytes: &[u8],
+    fault: ScenarioFault,
+) -> Result<(), AllocError>
+    ensures { OnOk result
+        ((told : List ℕ) × IsTold bytes.now fault told × (line.new ≡ line.old ++ told)) }
+{
+    match fault {
+        ScenarioFault::NotJson => push_position(alloc, line, bytes),
+        _ => push_mistake::<Scenario>(alloc, line, 1048576, bytes),
+    }
 }
 
 fn is_want_of_memory(fault: ScenarioFault) -> bool

@@ -58,7 +58,7 @@ pub fn start(alloc: Global, value: &Value) -> Result<Start, ScenarioFault>
 }
 
 #[tactic(auto, unfolding(crate::specs::Scenarios::job_of))]
-fn job_of(alloc: Global, version: u32, object: &Value) -> Result<Job, ScenarioFault>
+pub fn job_of(alloc: Global, version: u32, object: &Value) -> Result<Job, ScenarioFault>
     ensures { Gives (λ j. j) result (job_of version (view object.now)) }
 {
     if version == 1 {
@@ -69,7 +69,7 @@ fn job_of(alloc: Global, version: u32, object: &Value) -> Result<Job, ScenarioFa
 }
 
 /// Gives the key at which the job stands.
-fn job_key(version: u32) -> &'static str
+pub fn job_key(version: u32) -> &'static str
     ensures { result.now ≡ job_key version }
 {
     if version == 1 { "steps" } else { "workers" }

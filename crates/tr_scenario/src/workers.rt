@@ -31,7 +31,7 @@ impl FromJson for Item {
 
 /// Reads how a call is repeated: by `times` or by `until`, not both.
 #[tactic(auto, unfolding(crate::specs::Workers::repeat_of, crate::specs::Steps::times_of))]
-fn repeat(value: &Value) -> Result<Repeat, ScenarioFault>
+pub fn repeat(value: &Value) -> Result<Repeat, ScenarioFault>
     ensures { Gives (λ r. r) result (repeat_of (view value.now)) }
 {
     let Some(until) = value.get("until") else {
@@ -61,7 +61,7 @@ impl FromJson for Event {
 
 /// Reads the kind at a key, where it is an op's.
 #[tactic(auto, unfolding(crate::specs::Workers::op_kind_at))]
-fn op_kind_at(object: &Value, key: &str) -> Result<Kind, ScenarioFault>
+pub fn op_kind_at(object: &Value, key: &str) -> Result<Kind, ScenarioFault>
     ensures { Gives (λ k. k) result (op_kind_at key.now (view object.now)) }
 {
     let kind = kind_at(object, key)?;
@@ -118,7 +118,7 @@ impl FromJson for Script {
 
 /// Reads where a worker takes its calls from: `items` or `machine`, not both.
 #[tactic(auto, unfolding(crate::specs::Workers::plan_of))]
-fn plan(alloc: Global, value: &Value) -> Result<Plan, ScenarioFault>
+pub fn plan(alloc: Global, value: &Value) -> Result<Plan, ScenarioFault>
     ensures { Gives (λ p. p) result (plan_of (view value.now)) }
 {
     match (value.get("items"), value.get("machine")) {

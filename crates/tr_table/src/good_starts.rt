@@ -39,7 +39,8 @@ fn are_good(groups: &[GroupStart]) -> bool
     groups.iter().all(|group| is_good_group(group))
 }
 
-fn is_good_group(group: &GroupStart) -> bool
+/// Whether a start may have the group: all that the fields of `GroupStart` are said to be, but for its ids.
+pub fn is_good_group(group: &GroupStart) -> bool
     ensures { result ≡ is_good_group group.now }
 {
     let threads = group.threads.as_slice();
@@ -50,7 +51,7 @@ fn is_good_group(group: &GroupStart) -> bool
 }
 
 /// Whether the first thread has this id.
-fn leads(tgid: u32, threads: &[(u32, SigSet)]) -> bool
+pub fn leads(tgid: u32, threads: &[(u32, SigSet)]) -> bool
     ensures { result ≡ leads tgid threads.now }
 {
     match threads {
@@ -59,7 +60,8 @@ fn leads(tgid: u32, threads: &[(u32, SigSet)]) -> bool
     }
 }
 
-fn is_good_name(name: &[u8]) -> bool
+/// Whether a group may have the name: 1 to 15 bytes of printable ASCII without the backslash.
+pub fn is_good_name(name: &[u8]) -> bool
     ensures { result ≡ is_good_name name.now }
 {
     1 <= name.len() && name.len() <= 15 && are_name_bytes(name)
@@ -106,7 +108,7 @@ fn set_signal(actions: &[(Signal, Action)], number: u8) -> bool
 }
 
 /// Whether the groups have at most 1,024 threads together.
-fn are_few(groups: &[GroupStart]) -> bool
+pub fn are_few(groups: &[GroupStart]) -> bool
     ensures { result ≡ nat_le (length (ids_started groups.now)) 1024 }
 {
     let mut room = MOST_THREADS;
@@ -128,7 +130,8 @@ fn have_good_ids(groups: &[GroupStart]) -> bool
         .all(|group| are_good_ids(group.threads.as_slice()))
 }
 
-fn are_good_ids(threads: &[(u32, SigSet)]) -> bool
+/// Whether the ids of the threads are 2 to 4,194,303.
+pub fn are_good_ids(threads: &[(u32, SigSet)]) -> bool
     ensures { result ≡ list_all (λ t. is_good_id t.0) threads.now }
 {
     threads

@@ -37,6 +37,7 @@ mod threads;
 mod tracees;
 mod tracing;
 
+pub use good_starts::{are_few, are_good_ids, is_good_group, is_good_name, leads};
 pub use groups::GroupChange;
 pub use items::Items;
 pub use picked::Flush;

@@ -85,7 +85,8 @@ const EXPLAIN: &str =
 Prints below the line of a call, where it is refused, the condition that it doesn't meet; where it\n\
 makes no entry, what it finds; and where it puts a thread into a stop, which. Each such line names\n\
 the manual page that has the rule, or `this model's choice`. Of an input that is refused it prints\n\
-the name of the fault.";
+the name of the fault, where the first mistake stands, and what is wanted there:\n  \
+BadField: steps[3].sig: a whole number from 0 to 255 is wanted";
 
 const EXPLAIN_END: &str = "Example:\n  \
 echo '{\"version\":1,\"limit\":4,\"entries\":9,\"groups\":[{\"tgid\":10,\"name\":\"demo\",\"actions\":[],\n    \

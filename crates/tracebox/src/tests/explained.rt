@@ -1,4 +1,5 @@
 use super::*;
+use std::alloc::AllocError;
 
 /// An attach to a thread, its stop, and a request that it isn't in the state for.
 const ATTACHED: &str =
@@ -25,9 +26,38 @@ fn an_input_is_explained(rt: HostRuntime) {
         &rt,
         &EXPLAIN,
         BAD,
-        (1, "BadField\n", "tracebox: BadField\n"),
+        (
+            1,
+            "BadField: steps[0].do: is missing\n",
+            "tracebox: BadField\n",
+        ),
     );
-    expect(&rt, &EXPLAIN, "{", (1, "NotJson\n", "tracebox: NotJson\n"));
+    expect(
+        &rt,
+        &EXPLAIN,
+        "{\n\"version\":}",
+        (1, "NotJson: line 2, column 11\n", "tracebox: NotJson\n"),
+    );
+}
+
+/// A scenario of a machine with so many ops.
+fn with_ops(rt: &impl AllocGlobal, count: u32) -> Result<String, AllocError> {
+    let mut ops = String::new(rt.alloc());
+    for _ in 1..count {
+        ops.push_str("{\"do\":\"pause\",\"tid\":10},")?;
+    }
+    format!(in rt.alloc();
+        "{{\"version\":2,\"limit\":4,\"entries\":2,\"groups\":[],\"workers\":[{{\"actor\":10,\"machine\":[{{\"tid\":10,\"ops\":[{ops}{{\"do\":\"exec\",\"tid\":10}}]}}]}}]}}"
+    )
+}
+
+#[test]
+fn too_many_ops_are_told(rt: HostRuntime) -> Result<(), Fail> {
+    let input = with_ops(&rt, 10001)?;
+    let told = "TooLarge: more than 10000 items and ops\n";
+    let want = (1, told, "tracebox: TooLarge\n");
+    expect(&rt, &EXPLAIN, input.as_str(), want);
+    Ok(())
 }
 
 #[test]

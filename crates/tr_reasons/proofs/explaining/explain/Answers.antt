@@ -20,4 +20,4 @@ returns-in-Ok g c =
 pub returns : goal.returns
 returns g c =
     let b = c.in_ok-bytes.ensures in
-    explains_refused g.W.Sink.taken g.W.Sink.failures c.args.writer.now c.refuse.new.writer _ _ c.in_ok-bytes.bytes c.in-Err.fault c.refuse.result b.0 b.1 b.2 (rw c.as_slice.ensures at c.in-Err.ensures.gives) c.refuse.ensures
+    explains_refused g.W.Sink.taken g.W.Sink.failures c.args.writer.now c.refuse.new.writer _ _ c.in_ok-bytes.bytes c.in-Err.fault c.refuse.result b.0 b.1 b.2 (rw c.as_slice.ensures at c.in-Err.ensures.gives) (rw c.as_slice-in-Err.ensures at c.refuse.ensures)

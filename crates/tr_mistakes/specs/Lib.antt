@@ -1,0 +1,9 @@
+pub mod Events
+pub mod Groups
+pub mod Parts
+pub mod Private
+pub mod Scenarios
+pub mod Texts
+pub mod Told
+pub mod Wholes
+pub mod Workers

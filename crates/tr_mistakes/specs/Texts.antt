@@ -1,0 +1,27 @@
+-- What is told of bytes that are refused.
+use Rattle.std.specs.Prelude.{ℕ, ◌==◌, nat_le, List, [], ◌∷◌, ◌++◌, Result, Ok, Err, codes, decimal, if◌then◌else◌, length}
+use Rattle.serde_json.specs.Data.{Data}
+use Rattle.tr_status.specs.Texts.{texts}
+use Rattle.tr_scenario.specs.declared.faults.ScenarioFault.{ScenarioFault}
+use Rattle.tr_scenario.specs.Scenarios.{json_of}
+
+-- a place doesn't begin with a dot
+abbrev pub undotted : List ℕ → List ℕ
+undotted [] = []
+undotted (b ∷ bs) = if b == 46 then codes ": " ++ bs else b ∷ bs
+
+-- of what has a value
+abbrev pub valued_mistake : (Data → List ℕ) → Result Data ScenarioFault → List ℕ
+valued_mistake mistake (Err e) = []
+valued_mistake mistake (Ok d) = undotted (mistake d)
+
+-- of bytes, of which so many are allowed
+abbrev pub mistake_in : (Data → List ℕ) → ℕ → List ℕ → List ℕ
+mistake_in mistake most bytes =
+    if nat_le (length bytes) most
+    then valued_mistake mistake (json_of bytes)
+    else texts (codes ": more than " ∷ decimal most ∷ codes " bytes" ∷ [])
+
+-- where a text stops to be JSON
+abbrev pub position_text : ℕ → ℕ → List ℕ
+position_text line column = texts (codes ": line " ∷ decimal line ∷ codes ", column " ∷ decimal column ∷ [])
