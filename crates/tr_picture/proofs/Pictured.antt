@@ -99,6 +99,7 @@ row_is_lost d inside full empty once some =
     void : (xs : List ℕ) → length xs ≡ 0 → xs ≡ []
     void [] h = refl
     void (x ∷ xs) h = absurd (omega (arith, h))
+
     unlike : (xs : List ℕ) → 0 < length xs → bytes_eq xs [] ≡ false
     unlike [] h = absurd (omega (arith, h))
     unlike (x ∷ xs) h = refl
