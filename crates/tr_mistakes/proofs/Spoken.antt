@@ -1,5 +1,5 @@
 -- What is told, from its parts.
-use Rattle.std.proofs.Common.{◌≡◌, ◌∙◌, ◌+◌, ◌<◌, ◌≤◌, ◌==◌, ◌||◌, ℕ, zero, suc, List, [], ◌∷◌, ◌++◌, Bool, true, false, not, Option, Some, None, Result, Ok, Err, ◌⊎◌, inl, inr, IfOk, OnOk, ap, append_assoc, append-nil, arith, drop, drop-cons, add-one, get_or, if◌then◌else◌, length, map, refl, subst, sym, take, Bor}
+use Rattle.std.proofs.Common.{◌≡◌, ◌∙◌, ◌+◌, ◌<◌, ◌≤◌, ◌==◌, ◌||◌, ℕ, suc, List, [], ◌∷◌, ◌++◌, Bool, true, false, not, Option, Some, None, Result, Ok, Err, ◌⊎◌, inl, inr, IfOk, OnOk, ap, append_assoc, append-nil, drop, drop-cons, add-one, get_or, if◌then◌else◌, length, map, refl, subst, sym, take, Bor}
 use Rattle.std.proofs.lemmas.List.Folds.{list_any-append}
 use Rattle.std.proofs.lemmas.List.{drop_all, take_more}
 use Rattle.std.specs.Prelude.{String, find, is_err, string_bytes}
@@ -17,8 +17,6 @@ use Rattle.tr_status.specs.Texts.{texts}
 use Rattle.tr_scenario.specs.declared.faults.ScenarioFault.{ScenarioFault}
 use Rattle.tr_scenario.specs.declared.faults.ScenarioFault.TheVariants.{BadField, BadSignal, BadStart, NoMemory, NotJson, ReadFault, Repeated, TooLarge, Unsettled, WriteFault}
 use Rattle.tr_scenario.specs.Fields.{Gives}
-use Rattle.tr_scenario.specs.Steps.{count_of}
-use Rattle.tr_scenario.proofs.Each.{count_of_view}
 use Rattle.tr_mistakes.specs.Parts.{index_part, keys_mistake, keys_mistake_of, refused_member, unknown_among, unknown_key}
 use Rattle.tr_mistakes.specs.Private.{refusal, told_key}
 use Rattle.tr_mistakes.specs.Wholes.{again, first_bad}
@@ -122,10 +120,6 @@ pub again_left : (ns : List ℕ) (i : ℕ) → i < length ns → again (take i n
 again_left ns i h =
     ap (again (take i ns)) (drops ns i h)
     ∙ ap (λ t. if list_any (λ m. m == get_or ns i 0) (take i ns) then Some (get_or ns i 0) else again t (drop (i + 1) ns)) (sym (take_more ns i 0 h))
-
--- how many values there are
-pub count_is : (vs : List Value) → count_of (items_view vs) ≡ length vs
-count_is vs = count_of_view vs
 
 -- after the last of them
 pub member_end : {A : Type 0} (read : Data → Result A ScenarioFault) (mistake : Data → List ℕ) (vs : List Value) (i : ℕ) → length vs ≤ i → refused_member read mistake i (items_view (drop i vs)) ≡ []

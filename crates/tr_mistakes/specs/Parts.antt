@@ -1,5 +1,5 @@
 -- What the words of a mistake are made of: where it stands, outermost part first, and what is wanted there.
-use Rattle.std.specs.Prelude.{ℕ, ◌+◌, ◌==◌, nat_le, List, [], ◌∷◌, ◌++◌, Bool, ◌&&◌, Option, Some, None, Result, Ok, Err, codes, decimal, if◌then◌else◌, is_err, is_some, length, not}
+use Rattle.std.specs.Prelude.{ℕ, ◌+◌, ◌==◌, nat_le, List, [], ◌∷◌, ◌++◌, Bool, ◌&&◌, Option, Some, None, Result, codes, decimal, if◌then◌else◌, is_err, is_some, length, not}
 use Rattle.std.specs.List.{list_all}
 use Rattle.serde_json.specs.Data.{Data, Items, no_items, item, Members, no_members, member}
 use Rattle.serde_json.specs.Find.{as_array, as_object, get}

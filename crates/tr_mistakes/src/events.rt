@@ -79,7 +79,7 @@ impl Mistaken for Step {
 }
 
 /// Appends the first mistake of a step that may have these keys beside its event's fields.
-pub fn push_step_mistake(
+fn push_step_mistake(
     alloc: Global,
     page: &mut Page,
     object: &Value,

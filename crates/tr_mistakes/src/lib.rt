@@ -11,7 +11,6 @@ mod wanted;
 mod wholes;
 mod workers;
 
-pub use events::push_step_mistake;
 pub use groups::push_start_mistake;
 pub use lists::{Mistaken, refused};
 pub use parts::{is_object, push_keys_mistake, push_object_wanted, push_wanted_at};

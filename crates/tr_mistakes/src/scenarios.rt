@@ -91,7 +91,7 @@ fn push_steps_mistake(
     }
 }
 
-#[tactic(auto, using(crate::proofs::Spoken::count_is))]
+#[tactic(auto, using(tr_scenario::proofs::Each::count_of_view))]
 fn are_few_steps(steps: &[Value]) -> bool
     ensures { result ≡ nat_le (count_of (items_view steps.now)) 10000 }
 {
@@ -126,7 +126,7 @@ fn push_workers_mistake(
     }
 }
 
-#[tactic(auto, using(crate::proofs::Spoken::count_is))]
+#[tactic(auto, using(tr_scenario::proofs::Each::count_of_view))]
 fn are_few_workers(workers: &[Value]) -> bool
     ensures { result
         ≡ (nat_le 1 (count_of (items_view workers.now)) && nat_le

@@ -22,6 +22,7 @@ pub enum Wanted {
     Byte,
     /// A number of 32 bits with a sign.
     Value,
+    /// True or false.
     Flag,
     /// What is done of a signal.
     How,
