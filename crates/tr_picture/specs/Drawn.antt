@@ -1,5 +1,5 @@
 -- What is drawn of a run so far: the lanes, and a row for each call.
-use Rattle.std.specs.Prelude.{ℕ, Bool, ◌+◌, ◌*◌, List, [], ◌∷◌, ◌++◌, ◌==◌, true, false, nat_lt, if◌then◌else◌, codes, decimal, length, take}
+use Rattle.std.specs.Prelude.{ℕ, ◌+◌, ◌*◌, List, [], ◌∷◌, ◌++◌, true, nat_lt, if◌then◌else◌, codes, decimal, length, take}
 use Rattle.std.specs.Str.{bytes_eq}
 use Rattle.tr_sigset.specs.declared.sets.SigSet.{SigSet}
 use Rattle.tr_model.specs.declared.replies.Reply.TheVariants.{Cloned}
