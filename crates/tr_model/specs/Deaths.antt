@@ -1,5 +1,5 @@
 -- How a group begins to die: exit_group(2), and "Death under ptrace" of ptrace(2).
-use Rattle.std.specs.Prelude.{ℕ, Bool, true, Option, Some, None, unwrap_or}
+use Rattle.std.specs.Prelude.{ℕ, Bool, true, Some, None, unwrap_or}
 use Rattle.tr_tracee.specs.declared.life.End.{End}
 use Rattle.tr_tracee.specs.declared.life.End.TheVariants.{Killed}
 use Rattle.tr_tracee.specs.Ends.{begun_to_leave}

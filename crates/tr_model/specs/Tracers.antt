@@ -1,5 +1,5 @@
 -- The end of a tracer, and what it leaves its tracees as: ptrace(2).
-use Rattle.std.specs.Prelude.{ℕ, List, not, ◌&&◌, Option, Some, None, if◌then◌else◌, filter, map}
+use Rattle.std.specs.Prelude.{ℕ, List, not, ◌&&◌, Option, Some, None, if◌then◌else◌, filter}
 use Rattle.tr_pending.specs.declared.instance.Instance.{Instance}
 use Rattle.tr_tracee.specs.declared.thread.Thread.{Thread}
 use Rattle.tr_tracee.specs.Lives.{held, is_dead}
