@@ -25,7 +25,7 @@ use Rattle.tr_scenario.specs.Steps.{count_of, step_among, step_of, steps_at, tim
 use Rattle.tr_scenario.specs.Workers.{item_of, op_kind_at, op_of, plan_in, plan_of, served_of, worker_of, workers_at}
 use Rattle.tr_mistakes.specs.declared.wanted.Wanted.{Wanted}
 use Rattle.tr_mistakes.specs.declared.wanted.Wanted.TheVariants as wanted
-use Rattle.tr_mistakes.specs.Events.{by_kind, event_wanted, field_mistake, fields_mistake, is_refused, item_mistake, made_mistake, op_mistake, op_wanted, option_mistake, planned_mistake, repeat_mistake, served_mistake_of, signal_mistake, step_fields_mistake, step_mistake}
+use Rattle.tr_mistakes.specs.Events.{by_kind, event_wanted, field_mistake, fields_mistake, is_refused, item_mistake, made_mistake, op_mistake, op_wanted, option_mistake, planned_mistake, repeat_mistake, op_fields_mistake, signal_mistake, step_fields_mistake, step_mistake}
 use Rattle.tr_mistakes.specs.Groups.{action_fields_mistake, action_mistake, group_fields_mistake, group_lists_mistake, group_mistake, start_fields_mistake, thread_fields_mistake, thread_mistake}
 use Rattle.tr_mistakes.specs.Parts.{in_object, index_part, key_part, keys_mistake, keys_mistake_of, list_mistake, list_mistake_in, listed_mistake, named_key, refused_member, unknown_among, unknown_key, wanted_at, wanted_in, whole_number}
 use Rattle.tr_mistakes.specs.Scenarios.{fields_of_scenario_mistake, job_mistake, scenario_mistake, steps_listed, steps_mistake, version_mistake, walked_mistake, workers_listed, workers_mistake}
@@ -228,7 +228,7 @@ of_item d e =
 of_op : Tells op_of op_mistake
 unfolding op_of
 of_op d e =
-    object (λ x. by_kind op_wanted served_mistake_of (op_kind_at (codes "do") x) x) d (λ s. of_kind op_wanted served_mistake_of _ _ d e refl (λ kind e.
+    object (λ x. by_kind op_wanted op_fields_mistake (op_kind_at (codes "do") x) x) d (λ s. of_kind op_wanted op_fields_mistake _ _ d e refl (λ kind e.
     told _ _ _ _ e (of_event kind d) (λ event e. at_end (codes "do" ∷ fields_of kind) d event s e)))
 
 -- Workers

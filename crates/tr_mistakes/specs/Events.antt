@@ -114,11 +114,11 @@ abbrev pub op_wanted : List ℕ
 op_wanted = codes ": `mask`, `action`, `pause`, `clone`, `exec`, `exit` or `exit_group` is wanted"
 
 -- after the op's name
-abbrev pub served_mistake_of : Kind → Data → List ℕ
-served_mistake_of kind d =
+abbrev pub op_fields_mistake : Kind → Data → List ℕ
+op_fields_mistake kind d =
     if is_err (event_of kind d) then fields_mistake (fields_of kind) d
     else keys_mistake (codes "do" ∷ fields_of kind) d
 
 -- an op of a machine
 abbrev pub op_mistake : Data → List ℕ
-op_mistake d = in_object (by_kind op_wanted served_mistake_of (op_kind_at (codes "do") d)) d
+op_mistake d = in_object (by_kind op_wanted op_fields_mistake (op_kind_at (codes "do") d)) d

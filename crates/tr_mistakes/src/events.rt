@@ -2,7 +2,7 @@ ghost use Rattle.std.specs.Prelude.{◌≡◌, ◌++◌, IfOk, OnOk, codes, is_e
 ghost use Rattle.serde_json.specs.Find.{get};
 ghost use Rattle.serde_json.specs.View.{view};
 ghost use Rattle.tr_scenario.specs.Events.{event_of};
-ghost use Rattle.tr_mistakes.specs.Events.{fields_mistake, item_mistake, made_mistake, op_mistake, option_mistake, planned_mistake, repeat_mistake, served_mistake_of, signal_mistake, step_fields_mistake, step_mistake};
+ghost use Rattle.tr_mistakes.specs.Events.{fields_mistake, item_mistake, made_mistake, op_mistake, option_mistake, planned_mistake, repeat_mistake, op_fields_mistake, signal_mistake, step_fields_mistake, step_mistake};
 
 use crate::lists::{Mistaken, refused};
 use crate::parts::{
@@ -172,7 +172,7 @@ impl Mistaken for Event {
             return push_object_wanted(page);
         }
         match op_kind_at(value, "do") {
-            Ok(kind) => push_served_mistake(alloc, page, value, kind),
+            Ok(kind) => push_op_mistake(alloc, page, value, kind),
             Err(ScenarioFault::NoMemory) => Err(AllocError),
             Err(_) => push_wanted_at(page, value, "do", OP),
         }
@@ -180,13 +180,13 @@ impl Mistaken for Event {
 }
 
 /// Appends the first mistake of an op behind its name.
-fn push_served_mistake(
+fn push_op_mistake(
     alloc: Global,
     page: &mut Page,
     object: &Value,
     kind: Kind,
 ) -> Result<(), AllocError>
-    ensures { OnOk result (page.new ≡ page.old ++ served_mistake_of kind (view object.now)) }
+    ensures { OnOk result (page.new ≡ page.old ++ op_fields_mistake kind (view object.now)) }
 {
     if is_event_refused(alloc, kind, object)? {
         return push_fields_mistake(alloc, page, object, fields_of(kind));

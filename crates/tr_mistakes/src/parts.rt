@@ -80,6 +80,7 @@ pub(crate) fn push_number_at(
     }
 }
 
+/// Tells whether a value is an object.
 pub fn is_object(value: &Value) -> bool
     ensures { result ≡ is_some (as_object (view value.now)) }
 {
