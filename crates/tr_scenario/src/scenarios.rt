@@ -57,6 +57,7 @@ pub fn start(alloc: Global, value: &Value) -> Result<Start, ScenarioFault>
     })
 }
 
+/// Reads the job of a scenario of this version: `steps` or `workers`.
 #[tactic(auto, unfolding(crate::specs::Scenarios::job_of))]
 pub fn job_of(alloc: Global, version: u32, object: &Value) -> Result<Job, ScenarioFault>
     ensures { Gives (λ j. j) result (job_of version (view object.now)) }
