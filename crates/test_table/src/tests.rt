@@ -8,6 +8,7 @@ mod one_queue;
 mod opening;
 mod pending;
 mod roster;
+mod settling;
 mod starter;
 
 use std::alloc::{AllocError, Global};

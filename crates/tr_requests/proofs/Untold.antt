@@ -1,6 +1,6 @@
 -- Where the table has no death and shows no note, the starter is told nothing.
 use Rattle.std.proofs.Common.{◌≡◌, ◌==◌, ◌&&◌, ◌||◌, ◌++◌, ◌∙◌, ℕ, List, [], ◌∷◌, Bool, true, false, not, Option, Some, None, cond, if◌then◌else◌, filter, flat_map, is_some, ap, refl, sym}
-use Rattle.std.proofs.Math.Bool.{and-false}
+use Rattle.std.proofs.lemmas.Bool.{or_parts}
 use Rattle.std.specs.List.{list_any}
 use Rattle.tr_wait.specs.declared.waits.WaitFlags.{WaitFlags}
 use Rattle.tr_tracee.specs.declared.thread.Report.{Report}
@@ -52,10 +52,6 @@ no_leader T e (g ∷ gs) n = ap (λ b. if b then thread_of T g.tgid else with_de
 
 -- no note
 
-unwanted : (flags : WaitFlags) (r : Option Report) → is_some r ≡ false → note_wanted flags r ≡ false
-unwanted flags None e = refl
-unwanted flags (Some x) e = cc
-
 unnumbered : (n : ℕ) (r : Option Report) → is_some r ≡ false → has_report n r ≡ false
 unnumbered n None e = refl
 unnumbered n (Some x) e = cc
@@ -74,6 +70,11 @@ no_noter p (g ∷ gs) e n = go (p g) (is_some g.note) refl e (λ h. no_noter p g
 
 -- neither
 
+hidden : (flags : WaitFlags) (r : Option Report) (b : Bool) → (is_some r && not b) ≡ false → (not b && note_wanted flags r) ≡ false
+hidden flags r true e = refl
+hidden flags None false e = refl
+hidden flags (Some x) false e = cc
+
 no_report : (T : Table) (flags : WaitFlags) (g : Group) → list_any is_untraced_death T.threads ≡ false → (not (has_traced T g.tgid) && note_wanted flags g.note) ≡ false → ready_of_group T flags g ≡ []
 no_report T flags g e k = ap (λ ns. ns ++ (if has_traced T g.tgid then [] else note_number flags g.note)) (no_number T.threads e g.tgid) ∙ go (has_traced T g.tgid) (note_wanted flags g.note) k
   where
@@ -82,20 +83,17 @@ no_report T flags g e k = ap (λ ns. ns ++ (if has_traced T g.tgid then [] else 
     go false true k = cc
     go false false k = refl
 
-pub no_reports : (T : Table) (flags : WaitFlags) → list_any is_untraced_death T.threads ≡ false → (p : Group → Bool) (gs : List Group) → list_any (λ g. is_some g.note) gs ≡ false → flat_map (ready_of_group T flags) (filter p gs) ≡ []
+pub no_reports : (T : Table) (flags : WaitFlags) → list_any is_untraced_death T.threads ≡ false → (p : Group → Bool) (gs : List Group) → list_any (λ g. is_some g.note && not (has_traced T g.tgid)) gs ≡ false
+    → flat_map (ready_of_group T flags) (filter p gs) ≡ []
 no_reports T flags d p [] e = refl
-no_reports T flags d p (g ∷ gs) e = go (p g) (is_some g.note) refl e (no_reports T flags d p gs)
+no_reports T flags d p (g ∷ gs) e = let h = or_parts _ _ e in go (p g) (no_report T flags g d (hidden flags g.note (has_traced T g.tgid) h.0)) (no_reports T flags d p gs h.1)
   where
     rest : List ℕ
     rest = flat_map (ready_of_group T flags) (filter p gs)
 
-    go : (b c : Bool) → is_some g.note ≡ c → (c || list_any (λ x. is_some x.note) gs) ≡ false → (list_any (λ x. is_some x.note) gs ≡ false → rest ≡ []) → flat_map (ready_of_group T flags) (cond b (g ∷ filter p gs) (filter p gs)) ≡ []
-    go b true k h r = absurd (never h)
-      where
-        never : true ≡ false → ⊥
-        never q = cc
-    go true false k h r = ap (λ ns. ns ++ rest) (no_report T flags g d (ap (λ c. not (has_traced T g.tgid) && c) (unwanted flags g.note k) ∙ and-false (not (has_traced T g.tgid)))) ∙ r h
-    go false false k h r = r h
+    go : (b : Bool) → ready_of_group T flags g ≡ [] → rest ≡ [] → flat_map (ready_of_group T flags) (cond b (g ∷ filter p gs) (filter p gs)) ≡ []
+    go true none r = ap (λ ns. ns ++ rest) none ∙ r
+    go false none r = r
 
 pub no_report_if : (b : Bool) (T : Table) (flags : WaitFlags) (g : Group) → list_any is_untraced_death T.threads ≡ false → (not (has_traced T g.tgid) && note_wanted flags g.note) ≡ false → None ≡ first_number (if b then ready_of_group T flags g else [])
 no_report_if true T flags g e k = ap first_number (sym (no_report T flags g e k))

@@ -173,7 +173,7 @@ fn first_among(table: &Table, groups: &[Group], which: Which, flags: WaitFlags) 
 fn first_for_starter(table: &Table, which: Which, flags: WaitFlags) -> Option<u64>
     ensures { result ≡ first_number (ready_for_starter table.now.table which flags) }
 {
-    if !may_tell(table, table.has_notes()) {
+    if !may_tell(table, table.may_show_notes()) {
         return None;
     }
     first_among(table, table.asked_groups(which), which, flags)

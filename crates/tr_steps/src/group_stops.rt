@@ -10,7 +10,7 @@ ghost use Rattle.tr_steps.specs.UnderWay.{Moves};
 
 use crate::steps::Step;
 use tr_sigset::Signal;
-use tr_table::GroupChange;
+use tr_table::{GroupChange, Unsettled};
 use tr_wait::Status;
 
 impl Step {
@@ -101,14 +101,26 @@ impl Step {
     }
 
     /// The last change of a step: a group-stop whose threads have all stopped is complete.
-    #[tactic(auto, using(tr_table::proofs::Settling::none_stopping))]
     pub fn complete_group_stops(&mut self)
         requires { length self.old.work.table.groups ≤ self.old.room }
         ensures work { self.new.work ≡ complete_group_stops self.old.work }
         ensures taken_from { self.new.taken_from ≡ self.old.taken_from }
     {
-        if self.table.stopping() > 0 {
-            self.complete_each_group_stop();
+        self.complete_unsettled();
+        self.table.settle();
+    }
+
+    /// The same, before the table is settled: no group is looked at that nothing happened to.
+    #[tactic(auto, using(tr_table::proofs::Settling::none_complete, tr_table::proofs::Settling::one_complete, tr_table::proofs::Settling::some_there))]
+    fn complete_unsettled(&mut self)
+        requires { length self.old.work.table.groups ≤ self.old.room }
+        ensures work { self.new.work ≡ complete_group_stops self.old.work }
+        ensures taken_from { self.new.taken_from ≡ self.old.taken_from }
+    {
+        match self.table.unsettled() {
+            Unsettled::In(tgid) if self.can_complete(tgid) => self.complete_stop(tgid),
+            Unsettled::Nowhere | Unsettled::In(_) => {}
+            Unsettled::Anywhere => self.complete_each_group_stop(),
         }
     }
 

@@ -21,6 +21,7 @@ pub mod Rostering
 pub mod Rosters
 pub mod SetActions
 pub mod Settling
+pub mod Unsettling
 pub mod Started
 pub mod Multisets
 pub mod Traced

@@ -293,7 +293,7 @@ module _ (ts : List Thread) (ids : List ℕ) (rs : List (ℕ × RosterView)) (h 
 
 -- a thread takes the row of a leader that was of another group
 
-unmoved : (g : ℕ) (ts : List Thread) (i : ℕ) (d y : Thread) → ((get_or ts i d).group == g) ≡ false → (y.group == g) ≡ false → filter (in_group g) (set ts i y) ≡ filter (in_group g) ts
+pub unmoved : (g : ℕ) (ts : List Thread) (i : ℕ) (d y : Thread) → ((get_or ts i d).group == g) ≡ false → (y.group == g) ≡ false → filter (in_group g) (set ts i y) ≡ filter (in_group g) ts
 unmoved g [] i d y e k = refl
 unmoved g (t ∷ ts) zero d y e k = ap (λ b. cond b (y ∷ filter (in_group g) ts) (filter (in_group g) ts)) k ∙ sym (ap (λ b. cond b (t ∷ filter (in_group g) ts) (filter (in_group g) ts)) e)
 unmoved g (t ∷ ts) (suc i) d y e k = go (t.group == g) (unmoved g ts i d y e k)

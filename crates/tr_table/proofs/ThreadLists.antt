@@ -85,7 +85,7 @@ new_id_at ts i d h once =
 abbrev pub left : ℕ → List Thread → List Thread
 left id ts = filter (λ t. not (t.id == id && is_dead t.life)) ts
 
-others_left : (id : ℕ) (ts : List Thread) → occurs id (ids_of ts) ≤ 0 → left id ts ≡ ts
+pub others_left : (id : ℕ) (ts : List Thread) → occurs id (ids_of ts) ≤ 0 → left id ts ≡ ts
 others_left id [] h = refl
 others_left id (t ∷ ts) h = go (t.id == id) h (others_left id ts)
   where

@@ -1,12 +1,11 @@
 -- What happens to the record of one thread or one group.
-use Rattle.std.specs.Prelude.{ℕ, List, [], length, map, filter, Bool, true, false, ◌&&◌, ◌==◌, if◌then◌else◌}
+use Rattle.std.specs.Prelude.{ℕ, List, [], map, filter, Bool, true, false, ◌&&◌, ◌==◌, if◌then◌else◌}
 use Rattle.std.specs.List.{list_any}
 use Rattle.tr_pending.specs.declared.instance.Instance.{Instance}
 use Rattle.tr_tracee.specs.declared.thread.Thread.{Thread}
 use Rattle.tr_tracee.specs.Ends.{begun_to_leave, begun_to_leave_by_exec, dead, execed, execing, leaving, released, unmarked}
 use Rattle.tr_tracee.specs.Marks.{cont_noted, continued, joining, marked, masked, noted, paused, stopped}
 use Rattle.tr_tracee.specs.Stops.{entered_as, interrupted, listening, reported, restarted, set_options, traced_by, untraced, without_report}
-use Rattle.tr_group.specs.GroupStops.{is_stopping}
 use Rattle.tr_model.specs.declared.rows.Group.{Group}
 use Rattle.tr_model.specs.declared.rows.Target.{Target}
 use Rattle.tr_model.specs.declared.rows.Waiting.{Waiting}
@@ -103,10 +102,6 @@ is_picked ts (picked.Set q set) w = same_target q w.target && has set w.instance
 -- the ids of the groups, in table order
 abbrev pub tgids : Table → List ℕ
 tgids T = map (λ x. x.tgid) T.groups
-
--- how many group-stops are under way
-abbrev pub stopping : Table → ℕ
-stopping T = length (filter (λ x. is_stopping x.group_stop) T.groups)
 
 -- a table of these threads and groups, for what asks for their ids alone
 abbrev pub ids_table : List Thread → List Group → Table

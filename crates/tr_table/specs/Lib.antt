@@ -7,6 +7,7 @@ pub mod Queues
 pub mod Lines
 pub mod Slots
 pub mod Rows
+pub mod Settled
 pub mod Pages
 pub mod Held
 pub mod Rosters

@@ -31,6 +31,7 @@ impl Table {
         ensures ok { OnOk result (more ≤ self.new.room) }
         ensures room { self.old.room ≤ self.new.room }
         ensures err { OnErr result (self.new ≡ self.old) }
+        ensures short { OnErr result (self.old.room < more) }
     {
         self.pending.reserve(more)
     }
@@ -46,6 +47,7 @@ impl Table {
             } }
     {
         self.threads.change_members(tgid, change);
+        self.unsettled.touch(tgid);
     }
 
     /// What happens to each thread of a group. What that takes out of a signal-delivery-stop is flushed, and appended to
@@ -73,6 +75,7 @@ impl Table {
     {
         self.threads.log_flushed(tgid, change, ended);
         self.threads.change_members(tgid, change);
+        self.unsettled.touch(tgid);
     }
 
     /// What happens to the record of the thread with the id, which is the only one with it.
@@ -87,7 +90,11 @@ impl Table {
         ensures only { map (at_thread id (thread_changed_by change.now)) self.old.table.threads
             ≡ changed id (thread_changed_by change.now) self.old.table.threads }
     {
-        self.threads.change(id, change);
+        if let Some(place) = self.threads.place(id) {
+            let group = self.threads.at(place).group;
+            self.threads.change_at(place, change);
+            self.unsettled.touch(group);
+        }
     }
 
     /// What happens to the record of a group.
@@ -101,6 +108,7 @@ impl Table {
             } }
     {
         self.groups.change(tgid, change);
+        self.unsettled.touch(tgid);
     }
 
     /// A note of a group for the starter, with the next report.
@@ -117,6 +125,7 @@ impl Table {
     {
         self.raised += 1;
         self.groups.note(tgid, self.raised, status);
+        self.unsettled.touch(tgid);
     }
 
     /// Accepts a signal that doesn't wait, and gives its number, which is above all that wait.
@@ -151,7 +160,7 @@ impl Table {
                   } ∷ [];
               accepted = self.old.table.accepted + 1;
             } }
-        ensures room { self.old.room ≤ self.new.room + 1 }
+        ensures room { self.new.room + 1 ≡ self.old.room }
     {
         self.accepted += 1;
         let instance = Instance {
@@ -170,7 +179,7 @@ impl Table {
               waiting = filter
                   (λ q. not (is_flushed self.old.table.threads tgid flush.now q)) self.old.table.waiting;
             } }
-        ensures room { self.old.room ≤ self.new.room }
+        ensures room { self.new.room ≡ self.old.room }
         ensures ended { ended.new.items
             ≡ ended.old.items
             ++ map (ending_of Flushed)
@@ -192,7 +201,7 @@ impl Table {
             ≡ record self.old.table {
               waiting = filter (λ q. not (q.instance.n == n)) self.old.table.waiting;
             } }
-        ensures room { self.old.room ≤ self.new.room }
+        ensures room { self.new.room ≡ self.old.room }
         ensures ended { ended.new.items
             ≡ ended.old.items
             ++ map (ending_of Delivered) (filter (λ q. q.instance.n == n) self.old.table.waiting) }
@@ -212,7 +221,7 @@ impl Table {
     pub fn pull(&mut self, n: u64)
         ensures table { self.new.table
             ≡ record self.old.table { waiting = without_instance n self.old.table.waiting } }
-        ensures room { self.old.room ≤ self.new.room }
+        ensures room { self.new.room ≡ self.old.room }
     {
         let _pulled = self.pending.remove(n);
     }

@@ -36,6 +36,7 @@ mod thread_changes;
 mod threads;
 mod tracees;
 mod tracing;
+mod unsettled;
 
 pub use good_starts::{are_few, are_good_ids, is_good_group, is_good_name, leads};
 pub use groups::GroupChange;
@@ -47,3 +48,4 @@ pub use snapshots::Snapshot;
 pub use starts::{GroupStart, Start};
 pub use table::Table;
 pub use thread_changes::ThreadChange;
+pub use unsettled::Unsettled;

@@ -74,10 +74,11 @@ pub(crate) fn write<K: Eq + Hash + Copy, V: Copy>(map: &mut IndexMap<K, V>, key:
     ensures spare { spare map.old ≤ spare map.new + 1 }
     ensures places { index_map_len map.old + spare map.old ≤ index_map_len map.new + spare map.new }
 {
-    if map.contains_key(key) {
-        rewrite(map, key, Some(value));
-    } else {
-        let _none = map.insert(*key, value).unwrap();
+    match map.get_mut(key) {
+        Some(kept) => *kept = value,
+        None => {
+            let _none = map.insert(*key, value).unwrap();
+        }
     }
 }
 

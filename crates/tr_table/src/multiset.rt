@@ -1,4 +1,4 @@
-ghost use Rattle.std.specs.Prelude.{◌≡◌, ℕ, ◌+◌, ◌<◌, ◌≤◌, ◌==◌, [], OnErr, OnOk, is_some, length, not};
+ghost use Rattle.std.specs.Prelude.{◌≡◌, ℕ, ◌+◌, ◌<◌, ◌≤◌, ◌==◌, [], OnErr, OnOk, is_some, length, nat_lt, not};
 ghost use Rattle.tr_model.specs.Journals.{occurs};
 ghost use Rattle.tr_table.specs.Held.{bool_to_nat};
 ghost use Rattle.tr_table.specs.Tracing.{is_number};
@@ -50,8 +50,30 @@ impl Multiset {
         self.numbers.binary_search(&n).is_ok()
     }
 
+    /// Whether no number is counted.
+    pub(crate) fn is_empty(&self) -> bool
+        ensures { result ≡ (length self.now.numbers == 0) }
+    {
+        self.numbers.is_empty()
+    }
+
+    /// Whether there is a place for one more number.
+    pub(crate) fn has_room(&self) -> bool
+        ensures { result ≡ nat_lt (length self.now.numbers) self.now.places }
+    {
+        self.numbers.len() < self.numbers.capacity()
+    }
+
+    /// No number is counted any more. The places stay.
+    pub(crate) fn clear(&mut self)
+        ensures numbers { self.new.numbers ≡ [] }
+        ensures places { self.new.places ≡ self.old.places }
+    {
+        self.numbers.clear();
+    }
+
     /// Counts a number once more.
-    fn insert(&mut self, n: u32)
+    pub(crate) fn insert(&mut self, n: u32)
         requires { length self.old.numbers < self.old.places }
         ensures counted { (m : ℕ)
             → occurs m self.new.numbers ≡ occurs m self.old.numbers + bool_to_nat (n == m) }
@@ -63,7 +85,7 @@ impl Multiset {
     }
 
     /// Counts a number once less.
-    fn remove(&mut self, n: u32)
+    pub(crate) fn remove(&mut self, n: u32)
         requires { 1 ≤ occurs n self.old.numbers }
         ensures counted { (m : ℕ)
             → occurs m self.new.numbers + bool_to_nat (n == m) ≡ occurs m self.old.numbers }

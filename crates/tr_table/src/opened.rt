@@ -7,10 +7,12 @@ ghost use Rattle.tr_model.specs.Tables.{ids_of};
 ghost use Rattle.tr_table.specs.Starts.{all_started, group_started, is_good, name_fits, name_of, table_of, thread_started, threads_started, with_actions};
 
 use crate::group_list::Groups;
+use crate::multiset::Multiset;
 use crate::pending::Pending;
 use crate::starts::{GroupStart, Start};
 use crate::table::Table;
 use crate::threads::Threads;
+use crate::unsettled::Unsettled;
 use std::alloc::{AllocError, Global};
 use std::slice;
 use tr_group::{Action, GroupStop};
@@ -25,10 +27,13 @@ impl Table {
     /// tests.
     pub fn open(start: &Start, alloc: Global) -> Result<Table, AllocError>
         requires { IsTrue (is_good start.now) }
-        ensures { IfOk result (λ t. t.table ≡ table_of start.now) }
+        ensures table { IfOk result (λ t. t.table ≡ table_of start.now) }
+        ensures room { IfOk result (λ t. t.room ≡ 0) }
     {
         let threads = started_threads(start.groups.as_slice(), alloc)?;
         let groups = Groups::from_vec(started_groups(start.groups.as_slice(), alloc)?, alloc)?;
+        let mut noted = Multiset::new(alloc);
+        noted.reserve(start.groups.as_slice().len())?;
         Ok(Table {
             threads,
             groups,
@@ -37,6 +42,8 @@ impl Table {
             raised: 0,
             limit: start.limit,
             entries: start.entries,
+            unsettled: Unsettled::Anywhere,
+            noted,
         })
     }
 }

@@ -48,6 +48,7 @@ impl Pending {
     pub(crate) fn new(alloc: Global) -> Pending
         ensures kept { IsPending result }
         ensures waiting { standing result.slots.items ≡ [] }
+        ensures room { result.room ≡ 0 }
     {
         Pending {
             slots: Vec::new(alloc),
@@ -224,6 +225,7 @@ impl Pending {
         ensures ok { OnOk result (more ≤ self.new.room) }
         ensures room { self.old.room ≤ self.new.room }
         ensures err { OnErr result (self.new.room ≡ self.old.room) }
+        ensures short { OnErr result (self.old.room < more) }
     {
         if more <= self.room {
             return Ok(());

@@ -37,7 +37,9 @@ impl Table {
             ≡ record self.old.table {
               waiting = after_put target instance.now self.old.table.waiting;
             } }
-        ensures room { self.old.room ≤ self.new.room + 1 }
+        ensures room { self.old.room
+            ≡ (if merges instance.now.sig
+            (queue self.old.table target) then self.new.room else self.new.room + 1) }
     {
         let signal = instance.sig;
         if !signal.is_real_time() && self.pending.is_waiting(target, signal) {
@@ -55,7 +57,7 @@ impl Table {
         ensures taken { result ≡ first_of signal (queue self.old.table target) }
         ensures table { self.new.table
             ≡ record self.old.table { waiting = without_one target signal self.old.table.waiting } }
-        ensures room { self.old.room ≤ self.new.room }
+        ensures room { self.new.room ≡ self.old.room }
     {
         self.pending.take_first(target, signal)
     }
@@ -72,7 +74,7 @@ impl Table {
             ≡ record self.old.table {
               waiting = filter (λ q. not (is_of target set q)) self.old.table.waiting;
             } }
-        ensures room { self.old.room ≤ self.new.room }
+        ensures room { self.new.room ≡ self.old.room }
         ensures capacity { vec_capacity gone.new ≡ vec_capacity gone.old }
     {
         let picked = Picked::Set(target, set);
@@ -88,7 +90,7 @@ impl Table {
             ≡ record self.old.table {
               waiting = filter (λ q. not (same_target target q.target)) self.old.table.waiting;
             } }
-        ensures room { self.old.room ≤ self.new.room }
+        ensures room { self.new.room ≡ self.old.room }
         ensures ended { ended.new.items
             ≡ ended.old.items
             ++ map (ending_of Flushed)

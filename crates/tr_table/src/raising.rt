@@ -65,6 +65,7 @@ impl Table {
     {
         let thread = self.threads.at(place);
         let (id, whom) = (thread.id, thread.tracer());
+        self.unsettled.touch(thread.group);
         self.raised += 1;
         self.threads.change_at(place, change);
         Raise {

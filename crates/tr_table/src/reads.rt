@@ -6,7 +6,7 @@ ghost use Rattle.tr_pending.specs.Waiting.{best_of, is_waiting};
 ghost use Rattle.tr_model.specs.Journals.{IsSorted};
 ghost use Rattle.tr_model.specs.Moves.{instance_in};
 ghost use Rattle.tr_model.specs.Tables.{action_of, all_dead, end_of, group_of, has_live, has_stop_mark, has_traced, members, others_dead, owner, queue, stop_of};
-ghost use Rattle.tr_table.specs.Changes.{stopping, tgids};
+ghost use Rattle.tr_table.specs.Changes.{tgids};
 
 use crate::groups::{action_in, end_in, stop_in};
 use crate::table::Table;
@@ -132,13 +132,6 @@ impl Table {
         ensures sorted { IsSorted self.now.table.waiting }
     {
         self.pending.instance(n)
-    }
-
-    /// How many group-stops are under way. With none the end of a step has none to complete.
-    pub fn stopping(&self) -> usize
-        ensures { result ≡ stopping self.now.table }
-    {
-        self.groups.stopping()
     }
 
     /// How many groups there are.

@@ -5,8 +5,9 @@ ghost use Rattle.tr_model.specs.Tables.{members, thread_of};
 ghost use Rattle.tr_table.specs.Moved.{Renames};
 
 use crate::table::Table;
+use crate::threads::owner_of;
 use std::alloc::AllocError;
-use tr_model::Group;
+use tr_model::{Group, Target};
 use tr_tracee::Thread;
 
 // Records that come, go or are written anew. Only `add` takes memory.
@@ -25,6 +26,7 @@ impl Table {
             }) }
         ensures err { OnErr result (self.new ≡ self.old) }
     {
+        self.unsettled.touch(thread.group);
         self.threads.add(thread)
     }
 
@@ -37,9 +39,12 @@ impl Table {
               table = record self.old.table { threads = dropped id self.old.table.threads };
             } }
     {
-        let was = self.threads.find(id).is_some();
+        let Some(thread) = self.threads.find(id) else {
+            return false;
+        };
+        self.unsettled.touch(thread.group);
         self.threads.remove(id);
-        was
+        true
     }
 
     /// The thread with the id goes if it is dead, and the threads after it move up. What waits for it stays.
@@ -49,7 +54,10 @@ impl Table {
               table = (remove_dead (λ t. t.id == id) (begin self.old.table)).table;
             } }
     {
-        self.threads.remove_dead(id);
+        if let Some(thread) = self.threads.find(id) {
+            self.unsettled.touch(thread.group);
+            self.threads.remove_dead(id);
+        }
     }
 
     /// The group with the id goes if it has no thread, and the groups after it move up.
@@ -58,6 +66,7 @@ impl Table {
             ≡ record self.old { table = (drop_empty tgid (begin self.old.table)).table } }
     {
         self.groups.drop_empty(&self.threads, tgid);
+        self.unsettled.touch(tgid);
     }
 
     /// An execing thread takes the place and the id of its dead leader, whose record goes, and what waits for it goes with
@@ -71,6 +80,9 @@ impl Table {
         if !thread.life.is_execing() || thread.is_leader() {
             return None;
         }
+        self.unsettled.touch(thread.group);
+        self.unsettled
+            .touch(owner_of(&self.threads, Target::Thread(thread.group)));
         self.threads.take_place(place, &thread);
         self.pending.retarget(thread.id, thread.group);
         Some(thread.group)
@@ -86,5 +98,6 @@ impl Table {
             } }
     {
         self.groups.replace(group);
+        self.unsettled.touch(group.tgid);
     }
 }

@@ -3,8 +3,10 @@ ghost use Rattle.tr_model.specs.Journals.{DistinctIds};
 ghost use Rattle.tr_model.specs.Tables.{group_in, thread_in};
 
 use crate::group_list::Groups;
+use crate::multiset::Multiset;
 use crate::pending::Pending;
 use crate::threads::Threads;
+use crate::unsettled::Unsettled;
 use std::alloc::{AllocError, Global};
 use std::marker::Model;
 use tr_model::Group;
@@ -19,6 +21,9 @@ pub struct Table {
     pub(crate) raised: u64,
     pub(crate) limit: u32,
     pub(crate) entries: u32,
+    pub(crate) unsettled: Unsettled,
+    /// The groups that show a note for the starter, and maybe more, but for those that are unsettled.
+    pub(crate) noted: Multiset,
 }
 
 impl Model for Table {
@@ -33,7 +38,7 @@ impl Model for Table {
       room = t.pending.room;
     } };
 
-    ghost invariant = { λ t. IsTable t.threads t.groups t.pending t.accepted };
+    ghost invariant = { λ t. IsTable t.threads t.groups t.pending t.accepted t.unsettled t.noted.numbers };
 }
 
 impl Drop for Table {
@@ -46,6 +51,8 @@ impl Drop for Table {
             raised: _,
             limit: _,
             entries: _,
+            unsettled: _,
+            noted: _,
         } = self;
     }
 }

@@ -14,8 +14,8 @@ use Rattle.tr_requests.proofs.starter_waits.first_for_starter.Goals as goal
 pub returns-then-not-may_tell : goal.returns-then-not-may_tell
 returns-then-not-may_tell c =
     let T = c.args.table.now.table in
-    let quiet = or_parts _ _ (ap (λ (b : Bool). list_any is_untraced_death T.threads || b) (sym c.has_notes.ensures) ∙ (sym c.may_tell.ensures ∙ c.if-not-may_tell.true)) in
-    sym (ap first_number (no_reports T c.args.flags quiet.0 (λ (g : Group). asks_for c.args.which g.tgid && is_some (thread_of T g.tgid)) T.groups quiet.1))
+    let quiet = or_parts _ _ (sym c.may_tell.ensures ∙ c.if-not-may_tell.true) in
+    sym (ap first_number (no_reports T c.args.flags quiet.0 (λ (g : Group). asks_for c.args.which g.tgid && is_some (thread_of T g.tgid)) T.groups (c.may_show_notes.ensures quiet.1)))
 
 pub returns : goal.returns
 returns c =

@@ -1,9 +1,6 @@
-use Rattle.std.proofs.Common.{◌≡◌, ◌∙◌, Some, ap, arith, length, refl, sym}
+use Rattle.std.proofs.Common.{◌≡◌, ◌∙◌, Some, ap, arith, length, refl}
 use Rattle.std.proofs.lemmas.List.{append-nil}
-use Rattle.tr_tracee.specs.declared.thread.Thread.{Thread}
-use Rattle.tr_tracee.specs.Stops.{listening}
 use Rattle.tr_model.specs.declared.fates.Fate.TheVariants.{Flushed}
-use Rattle.tr_model.specs.Moves.{changed}
 use Rattle.tr_model.specs.Tables.{thread_of}
 use Rattle.tr_table.specs.Held.{held_count}
 use Rattle.tr_table.specs.View.{View}

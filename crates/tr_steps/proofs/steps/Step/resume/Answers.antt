@@ -1,5 +1,4 @@
-use Rattle.std.proofs.Common.{◌≡◌, ◌∙◌, Some, ap, arith, is_some, length, refl, sym}
-use Rattle.tr_tracee.specs.declared.thread.Thread.{Thread}
+use Rattle.std.proofs.Common.{◌≡◌, ◌∙◌, Some, ap, arith, is_some, length, refl}
 use Rattle.tr_tracee.specs.Lives.{held}
 use Rattle.tr_tracee.specs.Stops.{restarted}
 use Rattle.tr_model.specs.Moves.{changed}

@@ -7,7 +7,7 @@ use Rattle.tr_table.proofs.table.Table.accept.Goals as goal
 pub invariant_of-self : goal.invariant_of-self
 invariant_of-self c =
     let h = c.self.invariant.ordered in
-    record { roster = c.self.invariant.roster; few = c.self.invariant.few; ordered = record { kept = h.kept; numbered = up_to_later _ _ _ (omega arith) h.numbered } }
+    record { roster = c.self.invariant.roster; few = c.self.invariant.few; ordered = record { kept = h.kept; numbered = up_to_later _ _ _ (omega arith) h.numbered }; settled = c.self.invariant.settled }
 
 pub returns-clause-last : goal.returns-clause-last
 returns-clause-last c =

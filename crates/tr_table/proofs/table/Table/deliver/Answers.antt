@@ -11,7 +11,7 @@ use Rattle.tr_table.proofs.table.Table.deliver.Goals.{then-is_some, else-is_some
 use Rattle.tr_table.proofs.table.Table.deliver.Goals as goal
 
 pub invariant_of-self : goal.invariant_of-self
-invariant_of-self c = record { roster = c.self.invariant.roster; few = c.self.invariant.few; ordered = record { kept = c.remove.ensures.kept; numbered = rw c.remove.ensures.waiting (up_to_less _ _ _ c.self.invariant.ordered.numbered) } }
+invariant_of-self c = record { roster = c.self.invariant.roster; few = c.self.invariant.few; ordered = record { kept = c.remove.ensures.kept; numbered = rw c.remove.ensures.waiting (up_to_less _ _ _ c.self.invariant.ordered.numbered) }; settled = c.self.invariant.settled }
 
 pub returns-clause-table : goal.returns-clause-table
 returns-clause-table c =

@@ -1,11 +1,9 @@
 use Rattle.std.proofs.Common.{◌≡◌, ◌∙◌, ◌+◌, ◌++◌, ◌∷◌, [], true, false, ap, get_or, refl, rules, sym}
 use Rattle.std.specs.Prelude.{slice_set}
-use Rattle.tr_wait.specs.declared.status.Status.{Status}
 use Rattle.tr_tracee.specs.declared.thread.Thread.{Thread}
 use Rattle.tr_tracee.specs.Lives.{status_of_stop}
 use Rattle.tr_tracee.specs.Stops.{entered_as, may_enter}
 use Rattle.tr_tracee.specs.Threads.{tracer_of}
-use Rattle.tr_model.specs.declared.raises.Raise.{Raise}
 use Rattle.tr_model.specs.Tables.{Table}
 use Rattle.tr_table.specs.Slots.{standing}
 use Rattle.tr_table.specs.View.{View}

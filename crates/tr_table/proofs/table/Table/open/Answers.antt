@@ -30,4 +30,4 @@ invariant_of-result c =
     let e : c.in_ok-groups.groups ≡ map group_started c.args.start.now.groups = c.in_ok-groups.ensures ∙ (c.in_ok-started_groups.ensures ∙ ap (map group_started) c.as_slice-2.ensures) in
     let k : length c.in_ok-groups.groups ≡ length c.args.start.now.groups = ap length e ∙ length-map c.args.start.now.groups group_started in
     let few : length c.in_ok-groups.groups ≤ 1024 = rw k (few_started c.args.start.now c.requires) in
-    rw c.in_ok-threads.ensures (record { roster = rw c.as_slice.ensures (roster_started c.args.start.now c.requires); few = few; ordered = record { kept = c.new.ensures.kept; numbered = rw c.new.ensures.waiting tt } })
+    rw c.in_ok-threads.ensures (record { roster = rw c.as_slice.ensures (roster_started c.args.start.now c.requires); few = few; ordered = record { kept = c.new.ensures.kept; numbered = rw c.new.ensures.waiting tt }; settled = tt })

@@ -8,4 +8,4 @@ push-requires-clause-last c = rw (ap (λ v. v.table.waiting) c.self.view_is) c.r
 pub invariant_of-self : goal.invariant_of-self
 invariant_of-self c =
     let accepted : c.args.instance.now.n ≤ c.self.inside.accepted = rw (ap (λ v. v.table.accepted) c.self.view_is) c.requires.accepted in
-    record { roster = c.self.invariant.roster; few = c.self.invariant.few; ordered = record { kept = c.push.ensures.kept; numbered = rw c.push.ensures.waiting (up_to_last _ _ _ c.self.invariant.ordered.numbered accepted) } }
+    record { roster = c.self.invariant.roster; few = c.self.invariant.few; ordered = record { kept = c.push.ensures.kept; numbered = rw c.push.ensures.waiting (up_to_last _ _ _ c.self.invariant.ordered.numbered accepted) }; settled = c.self.invariant.settled }

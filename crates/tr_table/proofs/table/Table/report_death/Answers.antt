@@ -1,11 +1,9 @@
 use Rattle.std.proofs.Common.{◌≡◌, ◌∙◌, ◌+◌, ◌++◌, ◌∷◌, [], true, false, ap, get_or, refl, rules, sym}
 use Rattle.std.specs.Prelude.{slice_set}
-use Rattle.tr_wait.specs.declared.status.Status.{Status}
 use Rattle.tr_tracee.specs.declared.thread.Thread.{Thread}
 use Rattle.tr_tracee.specs.Lives.{is_dead, status_of_end}
 use Rattle.tr_tracee.specs.Stops.{reported}
 use Rattle.tr_tracee.specs.Threads.{tracer_of}
-use Rattle.tr_model.specs.declared.raises.Raise.{Raise}
 use Rattle.tr_model.specs.Tables.{Table}
 use Rattle.tr_table.specs.Slots.{standing}
 use Rattle.tr_table.specs.View.{View}

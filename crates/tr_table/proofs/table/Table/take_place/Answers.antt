@@ -1,16 +1,18 @@
-use Rattle.std.proofs.Common.{◌≡◌, ◌∙◌, ◌++◌, ◌∷◌, ◌&&◌, [], List, Some, true, false, ap, get_or, map, not, refl, remove, rules, subst, sym}
+use Rattle.std.proofs.Common.{◌≡◌, ◌∙◌, ◌++◌, ◌∷◌, ◌&&◌, [], List, Some, true, false, ap, eq-eqb, map, not, refl, remove, rules, subst, sym, true≢false}
 use Rattle.tr_tracee.specs.declared.thread.Thread.{Thread}
 use Rattle.tr_tracee.specs.Lives.{is_execing}
 use Rattle.tr_tracee.specs.Threads.{is_leader}
-use Rattle.tr_model.specs.Moves.{in_leaders_row}
-use Rattle.tr_model.specs.Tables.{Table, thread_in}
+use Rattle.tr_model.specs.Moves.{dropped, in_leaders_row}
+use Rattle.tr_model.specs.Tables.{Table, group_of_thread, thread_in}
 use Rattle.tr_model.proofs.Kept.{itself}
 use Rattle.tr_model.proofs.Sorted.{up_to_retargeted}
 use Rattle.tr_table.specs.Order.{IsRoster}
+use Rattle.tr_table.specs.Settled.{NoneBut, touched}
 use Rattle.tr_table.specs.Slots.{standing}
 use Rattle.tr_table.specs.View.{View}
-use Rattle.tr_table.proofs.Moving.{gone, no_rename, not_placed, nowhere, placed, there}
+use Rattle.tr_table.proofs.Moving.{gone, not_placed, placed, there}
 use Rattle.tr_table.proofs.Rosters.{roster_placed}
+use Rattle.tr_table.proofs.Unsettling.{by_members, members_placed, moved_two}
 use Rattle.tr_table.proofs.table.Table.take_place.Goals.{then-not-is_execing-via-then-not-is_execing, then-not-is_execing-via-else-not-is_execing+then-is_leader}
 use Rattle.tr_table.proofs.table.Table.take_place.Goals as goal
 
@@ -37,7 +39,14 @@ invariant_of-self c =
     let here = c.in_ok-place.ensures.place in
     let mine : thread_in o.threads x.id ≡ Some x = itself o.threads c.args.id x (there c.args.id c.in_ok-place.place T here x (c.at.ensures x)) in
     let roster : IsRoster (map (in_leaders_row x) (remove o.threads c.in_ok-place.place)) = subst (λ (ts : List Thread). IsRoster (map (in_leaders_row x) ts)) (gone c.args.id c.in_ok-place.place T here x (c.at.ensures x)) (roster_placed x o.threads mine c.self.invariant.roster) in
-    rw c.take_place.ensures (record { roster = roster; few = c.self.invariant.few; ordered = record { kept = c.retarget.ensures.kept; numbered = rw c.retarget.ensures.waiting (up_to_retargeted _ _ _ _ c.self.invariant.ordered.numbered) } })
+    let xs = o.groups in
+    let former = group_of_thread (thread_in o.threads x.group) in
+    let apart : x.id ≡ x.group → ⊥ = λ e. true≢false (sym (eq-eqb x.id x.group e) ∙ (sym c.is_leader.ensures ∙ c.if-is_leader.false)) in
+    let moved : NoneBut (touched former (touched x.group o.unsettled)) (map (in_leaders_row x) (dropped x.id o.threads)) xs o.noted.numbers =
+    moved_two _ x.group former o.unsettled o.threads _ xs (λ n ne other. by_members _ o.threads _ xs n (members_placed x n o.threads c.self.invariant.roster mine apart ne other)) c.self.invariant.settled in
+    let settled : NoneBut (touched former (touched x.group o.unsettled)) (map (in_leaders_row x) (remove o.threads c.in_ok-place.place)) xs o.noted.numbers =
+    subst (λ (ts : List Thread). NoneBut (touched former (touched x.group o.unsettled)) (map (in_leaders_row x) ts) xs o.noted.numbers) (gone c.args.id c.in_ok-place.place T here x (c.at.ensures x)) moved in
+    rw c.take_place.ensures (record { roster = roster; few = c.self.invariant.few; ordered = record { kept = c.retarget.ensures.kept; numbered = rw c.retarget.ensures.waiting (up_to_retargeted _ _ _ _ c.self.invariant.ordered.numbered) }; settled = rw (c.touch-2.ensures, c.touch.ensures, c.owner_of.ensures) settled })
 
 pub returns : goal.returns
 returns c =
