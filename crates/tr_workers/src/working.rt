@@ -1,4 +1,4 @@
-ghost use Rattle.std.specs.Prelude.{◌≡◌, ◌≤◌, ◌<◌, ◌^◌, ◌⊎◌, [], true, length, IfErr, IfOk, OnOk};
+ghost use Rattle.std.specs.Prelude.{◌≡◌, ◌≤◌, ◌<◌, ◌^◌, ◌⊎◌, [], true, length, IfErr, IfOk, OnErr, OnOk};
 ghost use Rattle.tr_hub.specs.Answers.{accepted_in};
 ghost use Rattle.tr_kernel.specs.declared.answers.Answer.TheVariants.{Refused};
 ghost use Rattle.tr_model.specs.declared.replies.Refusal.TheVariants.{NoMemory};
@@ -56,6 +56,7 @@ impl Tally {
         ensures counted { OnOk result (self.new ≡ counted self.old answer.now) }
         ensures answered { OnOk result (answer.now ≡ Refused NoMemory → ⊥) }
         ensures refused { IfErr result (λ _. answer.now ≡ Refused NoMemory) }
+        ensures unchanged { OnErr result (self.new ≡ self.old) }
     {
         match answer {
             Answer::Entered(receipt) => {
