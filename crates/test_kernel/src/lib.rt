@@ -1,4 +1,4 @@
-//! Tests of a kernel through its public calls.
+//! Tests of a kernel, of status texts and of the oracle, through their public calls.
 #![tactic(auto)]
 
 #[cfg(test)]

@@ -2,9 +2,12 @@ mod foreseen;
 mod heard;
 mod kills;
 mod laws;
+mod offers;
 mod starter;
+mod statuses;
 mod stops;
 mod tracer_ends;
+mod verdicts;
 
 use std::fmt::Debug;
 use std::process::Abort;

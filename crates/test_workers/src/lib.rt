@@ -1,4 +1,4 @@
-//! Tests of workers, their scripts and the settling through public calls.
+//! Tests of a hub, of workers, their scripts and the settling through public calls.
 #![tactic(auto)]
 
 #[cfg(test)]

@@ -1,11 +1,14 @@
 ghost use Rattle.std.specs.Prelude.{◌≡◌, ◌≤◌, ◌<◌, ◌^◌, IfOk, vec_len, length};
 
+mod calls;
+mod ends;
 mod gates;
 mod hubs;
 mod machines;
 mod memory;
 mod places;
 mod refused;
+mod seats;
 mod turns;
 
 use gates::{Meeting, Open, Second};

@@ -9,6 +9,3 @@ mod records;
 pub use comparing::compare;
 pub use expected::Expected;
 pub use records::{Answered, Record, read};
-
-#[cfg(test)]
-mod tests;

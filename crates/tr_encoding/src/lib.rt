@@ -9,6 +9,3 @@ mod sets;
 
 pub use calls::{Call, call_value};
 pub use scenarios::scenario_text;
-
-#[cfg(test)]
-mod tests;

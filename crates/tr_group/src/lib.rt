@@ -4,6 +4,3 @@
 mod stops;
 
 pub use stops::{Action, GroupStop};
-
-#[cfg(test)]
-mod tests;

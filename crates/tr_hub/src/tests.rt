@@ -1,7 +1,5 @@
 ghost use Rattle.std.specs.Prelude.{◌≡◌, ◌+◌, ◌≤◌, [], length, IfOk};
 
-mod calls;
-mod ends;
 mod waits;
 
 use super::*;
@@ -14,7 +12,6 @@ use std::sync::ledger::{Blank, Ledger};
 use std::test::Fail;
 use std::thread::Threads;
 use tr_kernel::Kernel;
-use tr_model::Event;
 use tr_sigset::SigSet;
 use tr_table::{GroupStart, Items, Start};
 
@@ -56,30 +53,12 @@ fn kernel(alloc: Global) -> Result<Kernel, Fail>
 /// What is tried at a hub.
 #[derive(Clone, Copy)]
 enum Trial {
-    /// That there is none.
-    Refused,
-    /// That it closes with all seats and not with fewer, and keeps what it had.
-    Closed,
-    /// Waits that find nothing.
-    Tried,
     /// A wait in one thread, and what it waits for in another.
     Waited,
     /// Two waits at once, and one entry.
     Woken,
     /// A wait that another wait's entry ends.
     Handed,
-    /// Calls, one after another.
-    Called(&'static [calls::Turn]),
-}
-
-fn refused(rt: &impl Abort, fault: HubFault, trial: Trial) -> Result<(), Fail> {
-    match trial {
-        Trial::Refused => {
-            same(rt, &fault, &HubFault::Repeated);
-            Ok(())
-        }
-        _ => Err(Fail::from("a hub")),
-    }
 }
 
 fn at<E: Parts + Send + Sync, A: Parts + Send + Sync, R: Threads + Wait + Abort + Sync>(
@@ -102,19 +81,13 @@ fn at<E: Parts + Send + Sync, A: Parts + Send + Sync, R: Threads + Wait + Abort 
         × (A.all ≡ A.parts)
         × (A.all ≡ length actors.now + 1) }
 {
-    let hub = Hub::<E, A>::new(alloc, entries, accepted, kernel, actors);
-    let (hub, seats) = match hub {
-        Ok(opened) => opened,
-        Err(fault) => return refused(rt, fault, trial),
+    let Ok((hub, seats)) = Hub::<E, A>::new(alloc, entries, accepted, kernel, actors) else {
+        return Err(Fail::from("a hub"));
     };
     match trial {
-        Trial::Refused => Err(Fail::from("no hub")),
-        Trial::Closed => ends::close(rt, hub, seats),
-        Trial::Tried => waits::try_waits(rt, &hub, seats),
         Trial::Waited => waits::wait_for_another(rt, &hub, seats),
         Trial::Woken => waits::wait_at_once(rt, &hub, seats),
         Trial::Handed => waits::wait_for_a_wait(rt, &hub, seats),
-        Trial::Called(turns) => calls::call_all(rt, hub, seats, actors, turns),
     }
 }
 
@@ -140,21 +113,6 @@ fn at_brand<R: Threads + Wait + Abort + Sync>(
 }
 
 #[test]
-fn two_equal_actors_get_no_hub(rt: HostRuntime) -> Result<(), Fail> {
-    at_brand(&rt, rt.alloc(), &[900, 900], Trial::Refused)
-}
-
-#[test]
-fn hub_closes_with_all_its_seats(rt: HostRuntime) -> Result<(), Fail> {
-    at_brand(&rt, rt.alloc(), &[900, 10], Trial::Closed)
-}
-
-#[test]
-fn wait_ends_after_its_turns(rt: HostRuntime) -> Result<(), Fail> {
-    at_brand(&rt, rt.alloc(), &[900, 10], Trial::Tried)
-}
-
-#[test]
 fn waiter_wakes_when_another_thread_stops_the_tracee(rt: HostRuntime) -> Result<(), Fail> {
     at_brand(&rt, rt.alloc(), &[900, 10], Trial::Waited)
 }
@@ -167,14 +125,4 @@ fn one_entry_wakes_all_that_wait(rt: HostRuntime) -> Result<(), Fail> {
 #[test]
 fn starter_wakes_when_the_tracer_has_waited(rt: HostRuntime) -> Result<(), Fail> {
     at_brand(&rt, rt.alloc(), &[900, 1], Trial::Handed)
-}
-
-#[test]
-fn attached_thread_stops_and_goes_on(rt: HostRuntime) -> Result<(), Fail> {
-    at_brand(&rt, rt.alloc(), &[900, 10], Trial::Called(&calls::ATTACHED))
-}
-
-#[test]
-fn killed_tracee_is_waited_for_twice(rt: HostRuntime) -> Result<(), Fail> {
-    at_brand(&rt, rt.alloc(), &[900, 1], Trial::Called(&calls::KILLED))
 }

@@ -5,8 +5,6 @@ mod digits;
 mod folds;
 mod ready;
 mod rows;
-#[cfg(test)]
-mod tests;
 
 pub use digits::hex16;
 pub use folds::{count_holding, union_all};

@@ -10,6 +10,3 @@ mod replies;
 pub use commands::Command;
 pub use conversations::converse;
 pub use dialogues::Dialogue;
-
-#[cfg(test)]
-mod tests;

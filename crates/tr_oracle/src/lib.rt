@@ -10,6 +10,3 @@ pub use expected::{Expectation, answer, answer_as};
 pub use offers::{first_offer_is_preferred, offered, offers_are_complete, offers_are_let};
 pub use verdicts::{Told, Unheard, Verdict, compare};
 pub use ways::{act_in_way, count_ways, offers_are_permitted, ways_are_complete};
-
-#[cfg(test)]
-mod tests;

@@ -6,6 +6,3 @@ mod queue;
 
 pub use instance::{Info, Instance};
 pub use queue::{Put, Queue};
-
-#[cfg(test)]
-mod tests;

@@ -6,6 +6,3 @@ mod signals;
 
 pub use sets::SigSet;
 pub use signals::{Base, Signal};
-
-#[cfg(test)]
-mod tests;

@@ -9,6 +9,3 @@ pub use sinks::{Failed, Sink, put_all, put_pieces};
 pub use statuses::{
     StatusBuffer, StatusFault, prepend_status, write_status, write_status_of, write_thread,
 };
-
-#[cfg(test)]
-mod tests;

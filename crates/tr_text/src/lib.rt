@@ -4,6 +4,3 @@
 mod buffers;
 
 pub use buffers::TextBuffer;
-
-#[cfg(test)]
-mod tests;

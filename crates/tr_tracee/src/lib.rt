@@ -10,6 +10,3 @@ mod thread;
 
 pub use life::{End, Life, Stop};
 pub use thread::{Options, Report, Thread, Trace};
-
-#[cfg(test)]
-mod tests;

@@ -11,6 +11,3 @@ pub use laws::words_differ;
 pub use status::{Status, StopSig};
 pub use waits::{WaitFlags, Which};
 pub use words::{Word, decode, encode};
-
-#[cfg(test)]
-mod tests;

@@ -1,5 +1,6 @@
-//! The program `tracebox`: it runs scenarios, call by call or by workers on threads, compares records of another system's
-//! answers with the model, and tells what wait status words mean.
+//! The program `tracebox`: it runs scenarios, call by call or by workers on threads, explains and draws their runs, goes
+//! through all their schedules, holds dialogues, compares records of another system's answers with the model, and tells what
+//! wait status words mean.
 #![tactic(auto)]
 
 mod asking;

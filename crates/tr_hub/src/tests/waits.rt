@@ -5,7 +5,7 @@ use std::sync::Wait;
 use std::test::Fail;
 use std::thread;
 use std::thread::Threads;
-use tr_model::{Event, Refusal, Reply};
+use tr_model::{Event, Reply};
 use tr_tracee::Options;
 use tr_wait::{WaitFlags, Which};
 
@@ -25,26 +25,6 @@ const SEIZE: Event = Event::Seize {
 };
 
 const NOTHING: Answer = Answer::Read(Reply::Nothing);
-
-/// Without a tracee: no turn finds nothing and makes no call, the first of three is refused.
-pub(super) fn try_waits<E: Parts, A: Parts>(
-    rt: &(impl Wait + Abort),
-    hub: &Hub<E, A>,
-    mut seats: Vec<Seat<E, A>>,
-) -> Result<(), Fail> {
-    let Some(mut seat) = seats.pop() else {
-        return Err(Fail::from("a seat"));
-    };
-    same(rt, &hub.wait_for(rt, &mut seat, ANY, 0), &NOTHING);
-    same(rt, &seat.calls(), &0);
-    same(
-        rt,
-        &hub.wait_for(rt, &mut seat, ANY, 3),
-        &Answer::Refused(Refusal::Child),
-    );
-    same(rt, &seat.calls(), &1);
-    Ok(())
-}
 
 /// Whether so many answers without an entry come, looked for up to 100,000,000 times.
 fn is_asked<E: Parts, A: Parts>(rt: &impl Wait, hub: &Hub<E, A>, count: usize) -> bool {

@@ -1,0 +1,3 @@
+mod reports;
+mod schedules;
+mod searches;
