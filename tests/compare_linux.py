@@ -6,7 +6,8 @@ usage: compare_linux.py PROGRAM
 Each examples/linux/NAME.json is a record of answers. PROGRAM compares it; where an answer differs, that answer is left out and the
 record is compared again, until all that are left agree. Each line that told of a difference has to stand behind its record's name in
 examples/linux/differences.txt, and each line there has to be told. The table of docs/LINUX.md has to name each record with a
-difference, and no record that isn't there. The last line is 'N passed, M failed', by records.
+difference, behind `seen:` or `let:` none but those whose difference isn't in an answer, and no record that isn't there. The last
+line is 'N passed, M failed', by records.
 """
 
 import collections
@@ -53,11 +54,14 @@ def known_differences():
 
 
 def faults_of_table(with_difference, there):
-    """What LINUX.md's table names or leaves out: the records with a difference, and those that are there, are given."""
+    """What LINUX.md's table names wrongly or leaves out: the records with a difference, and those that are there, are given."""
     table = (TOP / "docs" / "LINUX.md").read_text().partition(TABLE)[2].partition("\n\n")[0]
-    named = {name for row in table.splitlines() for name in re.findall(r"`(\w+)`", "".join(row.split(" | ")[-2:-1]))}
-    yield from (f"{name}: the table of docs/LINUX.md doesn't name it" for name in sorted(with_difference - named))
+    cells = ["".join(row.split(" | ")[-2:-1]) for row in table.splitlines()]
+    named = {name for cell in cells for name in re.findall(r"`(\w+)`", cell)}
+    answered = {name for cell in cells for name in re.findall(r"`(\w+)`", re.sub(r"(?:seen|let): .*", "", cell))}
+    yield from (f"{name}: the table of docs/LINUX.md doesn't name it" for name in sorted(with_difference - answered))
     yield from (f"{name}: the table of docs/LINUX.md names it, and it isn't there" for name in sorted(named - there))
+    yield from (f"{name}: the table of docs/LINUX.md says that its answers differ" for name in sorted(answered - with_difference))
 
 
 def main(program):
