@@ -3,6 +3,8 @@ use Rattle.std.proofs.Common.{◌≡◌, ℕ, ◌+◌, ◌-◌, ◌^◌, zero, s
 use Rattle.std.specs.List.{list_any}
 use Rattle.tr_sigset.specs.declared.sets.SigSet.{SigSet}
 use Rattle.tr_wait.specs.declared.waits.Which.TheVariants.{Any, One}
+use Rattle.tr_wait.specs.declared.waits.WaitFlags.{WaitFlags}
+use Rattle.tr_tracee.specs.declared.life.End.TheVariants.{Exited}
 use Rattle.tr_tracee.specs.declared.life.Life.{Life}
 use Rattle.tr_tracee.specs.declared.life.Life.TheVariants as life
 use Rattle.tr_tracee.specs.declared.thread.Options.{Options}
@@ -121,6 +123,14 @@ leader id = record (thread id) { group = id }
 abbrev pub three_groups : Table
 three_groups = record one { threads = leader 10 ∷ leader 20 ∷ leader 30 ∷ []; groups = group_record 10 ∷ group_record 20 ∷ group_record 30 ∷ [] }
 
+-- one group of one thread, with this id
+abbrev pub alone : ℕ → Table
+alone id = record one { threads = leader id ∷ []; groups = group_record id ∷ [] }
+
+-- a dead thread of this group
+abbrev pub dead_of : ℕ → ℕ → Thread
+dead_of group id = record (thread id) { group = group; life = life.Dead (Exited 0) }
+
 -- Calls: the threads themselves, their tracer 900, the sender 901 and the starter 1
 
 abbrev pub by : ℕ → Event → Call
@@ -191,6 +201,9 @@ tgkill id s = by 901 (event.Tgkill 10 id s)
 
 abbrev pub sigqueue : ℤ → Call
 sigqueue value = by 901 (event.Sigqueue 10 34 value)
+
+abbrev pub sigqueue_of : ℕ → ℕ → Call
+sigqueue_of g s = by 901 (event.Sigqueue g s (pos 0))
 
 abbrev pub take_any : Call
 take_any = by 900 (event.TakeAny 10)
@@ -264,6 +277,9 @@ wait_continued = starter_wait false true
 abbrev pub both : Call
 both = starter_wait true true
 
+abbrev pub any_note : WaitFlags
+any_note = record { untraced = true; continued = true }
+
 abbrev pub with_clone : Options
 with_clone = record { clone = true; exec = false; exit = false; exitkill = false }
 
@@ -323,6 +339,9 @@ told_signal s code pid = Read (reply.Signal s (info code pid (pos 0)))
 
 abbrev pub left : Table → List Call → Table
 left T cs = (run T cs).table
+
+abbrev pub journal : Table → List Call → List Entry
+journal T cs = (run T cs).journal
 
 abbrev pub tally : Table → List Call → Totals
 tally T cs = let s = run T cs in totals T s.journal s.table

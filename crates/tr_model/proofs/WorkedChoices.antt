@@ -1,5 +1,5 @@
 -- What the model leaves to choose: instances, threads, reports and ids.
-use Rattle.std.proofs.Common.{◌≡◌, ℕ, pos, negsuc, List, [], ◌∷◌, ◌++◌, Bool, true, false, Some, map, refl}
+use Rattle.std.proofs.Common.{◌≡◌, ℕ, pos, negsuc, List, [], ◌∷◌, ◌++◌, Bool, true, false, Some, map, None, refl}
 use Rattle.tr_sigset.specs.Sets.{in_word}
 use Rattle.tr_wait.specs.declared.waits.Which.TheVariants.{Any, One}
 use Rattle.tr_tracee.specs.Threads.{no_options}
@@ -10,15 +10,19 @@ use Rattle.tr_model.specs.declared.replies.Did.TheVariants.{Caught}
 use Rattle.tr_model.specs.declared.replies.Reply.TheVariants as reply
 use Rattle.tr_model.specs.declared.rows.Target.TheVariants as target
 use Rattle.std.specs.Prelude.{is_some, ◌||◌}
-use Rattle.tr_model.specs.Steps.{Admits, after, takes, is_new}
-use Rattle.tr_model.specs.Choices.{takes_by, takes_instance, gives_report}
-use Rattle.tr_model.specs.StarterWaits.{ready_death, ready_note}
+use Rattle.tr_model.specs.Steps.{Admits, after, takes, is_new, number, waited_note}
+use Rattle.tr_model.specs.Choices.{takes_by, takes_instance, gives_report, Choice, chosen_by, either, gives_id, no_choice, packed_id, packed_kind, packed_number}
+use Rattle.tr_model.specs.StarterWaits.{ready_death, ready_note, has_death, note_wanted, ready_for_starter}
 use Rattle.tr_model.specs.Waits.{ready, ready_thread}
 use Rattle.tr_model.specs.Journals.{taken}
 use Rattle.tr_model.specs.Runs.{Call}
 use Rattle.tr_model.specs.Sends.{info}
 use Rattle.tr_model.specs.Tables.{Table, thread_of}
-use Rattle.tr_model.proofs.Worked.{blocking, thread, acting, group_with, one, two, mask, action, take, trap, die_by, die, kill, take_any, seize_of, seize, reap, answers, ok, nothing, sent, took_with, took, left, trap_by, interrupt_of, group_record, leader, three_groups, second_blocks_two, exec_with_waiting_signals, ending_with_three_groups, dying_after_a_continue}
+use Rattle.tr_model.specs.Preferred.{least_new, new_id, preferred, taking_by}
+use Rattle.tr_model.specs.Takes.{taken_from}
+use Rattle.tr_model.specs.declared.choices.Kind.TheVariants as kind
+use Rattle.tr_wait.specs.declared.status.Status.TheVariants as status
+use Rattle.tr_model.proofs.Worked.{blocking, thread, acting, group_with, one, two, mask, action, take, trap, die_by, die, kill, take_any, seize_of, seize, reap, answers, ok, nothing, sent, took_with, took, left, trap_by, interrupt_of, group_record, leader, three_groups, second_blocks_two, exec_with_waiting_signals, ending_with_three_groups, dying_after_a_continue, alone, any_note, by, cloned, group_of, halt, interrupt}
 
 -- Takes
 
@@ -147,3 +151,189 @@ two_groups = record one { threads = thread 10 ∷ thread 11 ∷ leader 20 ∷ []
 the_id_of_a_group_is_not_new_without_its_leader : map (is_new (left two_groups (seize_of 11 no_options ∷ kill 9 ∷ die_by 11 ∷ die ∷ reap ∷ []))) (10 ∷ 11 ∷ 12 ∷ 20 ∷ []) ≡ false ∷ false ∷ true ∷ false ∷ []
 unfolding in_word
 the_id_of_a_group_is_not_new_without_its_leader = refl
+
+-- Choices as they are kept
+
+-- one of each kind
+abbrev each_choice : List Choice
+each_choice = no_choice ∷ takes_instance 5 ∷ takes_by 11 5 ∷ gives_report 6 ∷ gives_id 12 ∷ []
+
+-- the kind tells what was chosen
+each_choice_has_its_kind : map packed_kind each_choice ≡ kind.Nothing ∷ kind.Instance ∷ kind.ThreadAndInstance ∷ kind.Report ∷ kind.NewId ∷ []
+unfolding in_word
+each_choice_has_its_kind = refl
+
+-- the number is that of the instance or of the report
+the_number_of_a_choice_is_of_its_instance_or_report : map packed_number each_choice ≡ 0 ∷ 5 ∷ 5 ∷ 6 ∷ 0 ∷ []
+unfolding in_word
+the_number_of_a_choice_is_of_its_instance_or_report = refl
+
+-- the id is that of the thread, or the new one
+the_id_of_a_choice_is_of_its_thread_or_new : map packed_id each_choice ≡ 0 ∷ 0 ∷ 11 ∷ 0 ∷ 12 ∷ []
+unfolding in_word
+the_id_of_a_choice_is_of_its_thread_or_new = refl
+
+-- of two numbers the first counts
+the_first_of_two_numbers_is_kept : either (Some 5) (Some 6) ∷ either None (Some 6) ∷ either None None ∷ [] ≡ 5 ∷ 6 ∷ 0 ∷ []
+unfolding in_word
+the_first_of_two_numbers_is_kept = refl
+
+-- no event has such a choice
+abbrev with_two_of_each : Choice
+with_two_of_each = record { thread = Some 11; instance = Some 5; report = Some 6; new_id = Some 12 }
+
+-- also of one choice
+an_instance_is_kept_before_a_report_and_a_thread_before_a_new_id : packed_number with_two_of_each ∷ packed_id with_two_of_each ∷ [] ≡ 5 ∷ 11 ∷ []
+unfolding in_word
+an_instance_is_kept_before_a_report_and_a_thread_before_a_new_id = refl
+
+-- and each is read back, by the numbers that its kind uses
+a_choice_is_read_by_its_kind : map (λ k. chosen_by k 5 12) (kind.Nothing ∷ kind.Instance ∷ kind.ThreadAndInstance ∷ kind.Report ∷ kind.NewId ∷ []) ≡ no_choice ∷ takes_instance 5 ∷ takes_by 12 5 ∷ gives_report 5 ∷ gives_id 12 ∷ []
+unfolding in_word
+a_choice_is_read_by_its_kind = refl
+
+-- What no choice gives
+
+-- a choice that the model does not admit leads to nothing
+a_choice_of_what_is_not_there_replies_nothing : map (λ e. (after one e).reply) (record { actor = 900; event = event.TakeAny 10; choice = takes_by 99 1 } ∷ record { actor = 900; event = event.TakeAny 10; choice = takes_by 10 1 } ∷ record { actor = 900; event = event.Wait Any; choice = gives_report 5 } ∷ []) ≡ reply.Nothing ∷ reply.Nothing ∷ reply.Nothing ∷ []
+unfolding in_word
+a_choice_of_what_is_not_there_replies_nothing = refl
+
+-- a number that was not chosen is 0
+a_number_that_was_not_chosen_is_0 : map number (Some 7 ∷ None ∷ []) ≡ 7 ∷ 0 ∷ []
+unfolding in_word
+a_number_that_was_not_chosen_is_0 = refl
+
+-- a take by any thread is one by the thread that was chosen
+a_take_by_any_thread_takes_the_signal : answers first_blocks_what_all_catch (kill 12 ∷ take_any ∷ take_any ∷ []) ≡ sent 1 Pending ∷ took 11 1 12 Caught ∷ nothing ∷ []
+unfolding in_word
+a_take_by_any_thread_takes_the_signal = refl
+
+-- a thread with a mark to serve takes nothing, nor may it
+a_thread_with_a_mark_may_not_take : answers (group_with (thread 10 ∷ blocking (12 ∷ []) 11 ∷ []) (acting Catch [])) (seize no_options ∷ interrupt ∷ kill 12 ∷ take_any ∷ []) ≡ ok ∷ ok ∷ sent 1 Pending ∷ nothing ∷ []
+unfolding in_word
+a_thread_with_a_mark_may_not_take = refl
+
+-- so this product chooses nothing for it
+nothing_is_preferred_for_a_thread_with_a_mark : preferred (left one (seize no_options ∷ kill 12 ∷ interrupt ∷ [])) 10 (event.Take 10) ≡ no_choice
+unfolding in_word
+nothing_is_preferred_for_a_thread_with_a_mark = refl
+
+-- a thread takes from its own queue where something can be taken there, else from the shared one
+the_queue_of_a_take_is_its_own_or_the_shared_one : map (λ o. taken_from o (thread 11)) (Some (record { n = 1; sig = 12; info = info (pos 0) 901 (pos 0) }) ∷ None ∷ []) ≡ target.Thread 11 ∷ target.Group 10 ∷ []
+unfolding in_word
+the_queue_of_a_take_is_its_own_or_the_shared_one = refl
+
+-- the report of a dead leader is for the starter once nobody traces it
+the_starter_may_not_be_given_the_report_of_a_tracee : map (λ r. is_some (ready_death (left one (seize no_options ∷ kill 9 ∷ die ∷ [])) Any r)) (0 ∷ 1 ∷ 2 ∷ []) ≡ false ∷ false ∷ false ∷ []
+unfolding in_word
+the_starter_may_not_be_given_the_report_of_a_tracee = refl
+
+-- the note of a traced group waits
+the_starter_may_not_be_given_the_note_of_a_traced_group : is_some (ready_note (left one (kill 20 ∷ take ∷ halt ∷ seize no_options ∷ [])) Any (record { untraced = true; continued = true }) 1) ≡ false
+unfolding in_word
+the_starter_may_not_be_given_the_note_of_a_traced_group = refl
+
+-- no journal leads to a report of a thread that runs and that nobody traces
+abbrev reporting_while_it_runs : Table
+reporting_while_it_runs = record one { threads = record (thread 10) { report = Some (record { number = 7; status = status.Killed 9 }) } ∷ [] }
+
+-- the starter learns of a death alone
+the_starter_may_not_be_given_a_report_of_a_running_thread : ready_for_starter reporting_while_it_runs Any any_note ≡ []
+unfolding in_word
+the_starter_may_not_be_given_a_report_of_a_running_thread = refl
+
+-- nor by its number
+the_number_of_such_a_report_is_not_given : is_some (ready_death reporting_while_it_runs Any 7) ≡ false
+unfolding in_word
+the_number_of_such_a_report_is_not_given = refl
+
+-- no journal leads to a noted group that nobody traces and whose leader is gone
+abbrev noted_without_a_leader : Table
+noted_without_a_leader = record one { threads = thread 11 ∷ []; groups = record (group_record 10) { note = Some (record { number = 7; status = status.Continued }) } ∷ [] }
+
+-- the starter waits for groups whose leader is there
+a_note_without_a_leader_is_not_given : is_some (ready_note noted_without_a_leader Any any_note 7) ≡ false
+unfolding in_word
+a_note_without_a_leader_is_not_given = refl
+
+-- no flag asks for a note that is not there
+a_note_that_is_not_there_is_not_wanted : note_wanted any_note None ≡ false
+unfolding in_word
+a_note_that_is_not_there_is_not_wanted = refl
+
+-- nor has a leader that is not there a death
+a_leader_that_is_not_there_has_no_death : has_death 0 None ≡ false
+unfolding in_word
+a_leader_that_is_not_there_has_no_death = refl
+
+-- Least new ids
+
+-- the least new id is looked for so often, from this id up
+a_new_id_is_looked_for_this_often : map (λ tries. least_new two tries 10) (0 ∷ 1 ∷ 2 ∷ 3 ∷ 4 ∷ []) ≡ None ∷ None ∷ None ∷ Some 12 ∷ Some 12 ∷ []
+unfolding in_word
+a_new_id_is_looked_for_this_often = refl
+
+-- the greatest id is tried before the least
+the_greatest_id_is_new_above_all_others : answers (alone 4194302) (by 500 (event.CloneThread 4194302) ∷ []) ≡ cloned 4194303 ∷ []
+unfolding in_word new_id
+the_greatest_id_is_new_above_all_others = refl
+
+-- and past it the least from 2 up
+ids_begin_again_at_2 : answers (alone 4194303) (by 500 (event.CloneThread 4194303) ∷ []) ≡ cloned 2 ∷ []
+unfolding in_word new_id
+ids_begin_again_at_2 = refl
+
+-- the search begins above the id of the group, not of the thread that clones
+a_new_id_is_the_least_above_the_group : answers (group_of (thread 10 ∷ thread 20 ∷ [])) (by 500 (event.CloneThread 20) ∷ []) ≡ cloned 11 ∷ []
+unfolding in_word new_id
+a_new_id_is_the_least_above_the_group = refl
+
+-- a wait for a note that is not there has nothing to tell
+a_wait_without_a_note_replies_nothing : map waited_note (None ∷ Some (group_record 10) ∷ []) ≡ reply.Nothing ∷ reply.Nothing ∷ []
+unfolding in_word
+a_wait_without_a_note_replies_nothing = refl
+
+-- What a step admits
+
+-- a take of a signal that waits
+a_thread_may_take_what_waits : Admits (four_wait []) 10 (event.Take 10) (takes_instance 3)
+unfolding in_word
+a_thread_may_take_what_waits = (3, refl, refl)
+
+-- a wait for a later report
+a_wait_may_give_a_later_report : Admits two_reports 900 (event.Wait Any) (gives_report 1)
+unfolding in_word
+a_wait_may_give_a_later_report = (1, refl, refl)
+
+-- a wait of the starter for a later note
+a_starters_wait_may_give_a_later_note : Admits three_groups_left 1 (event.StarterWait Any (record { untraced = true; continued = false })) (gives_report 6)
+unfolding in_word
+a_starters_wait_may_give_a_later_note = (6, refl, refl)
+
+-- a clone with any new id
+a_clone_may_get_any_new_id : Admits one 10 (event.CloneThread 10) (gives_id 500)
+unfolding in_word
+a_clone_may_get_any_new_id = (500, refl, refl)
+
+-- and an attach, which chooses nothing
+an_attach_chooses_nothing : Admits one 900 (event.Attach 10) no_choice
+unfolding in_word
+an_attach_chooses_nothing = refl
+
+-- What is chosen
+
+-- a choice has what its event leaves open, and nothing else
+a_choice_has_nothing_else : no_choice ∷ takes_instance 5 ∷ takes_by 11 5 ∷ gives_report 6 ∷ gives_id 12 ∷ [] ≡ record { thread = None; instance = None; report = None; new_id = None } ∷ record { thread = None; instance = Some 5; report = None; new_id = None } ∷ record { thread = Some 11; instance = Some 5; report = None; new_id = None } ∷ record { thread = None; instance = None; report = Some 6; new_id = None } ∷ record { thread = None; instance = None; report = None; new_id = Some 12 } ∷ []
+unfolding in_word
+a_choice_has_nothing_else = refl
+
+-- where nothing can be chosen nothing is
+nothing_is_preferred_where_there_is_nothing : map (preferred one 10) (event.Take 99 ∷ event.TakeAny 99 ∷ event.Wait Any ∷ event.CloneThread 99 ∷ event.Attach 10 ∷ []) ≡ no_choice ∷ no_choice ∷ no_choice ∷ no_choice ∷ no_choice ∷ []
+unfolding in_word
+nothing_is_preferred_where_there_is_nothing = refl
+
+-- nor by a thread without a signal
+nothing_to_take_is_no_choice : taking_by 10 None ≡ no_choice
+unfolding in_word
+nothing_to_take_is_no_choice = refl

@@ -1,5 +1,5 @@
 -- How threads and groups end, and who is told.
-use Rattle.std.proofs.Common.{◌≡◌, List, [], ◌∷◌, ◌++◌, true, Some, refl}
+use Rattle.std.proofs.Common.{◌≡◌, List, [], ◌∷◌, ◌++◌, true, Some, None, false, map, refl}
 use Rattle.tr_sigset.specs.Sets.{in_word}
 use Rattle.tr_tracee.specs.declared.life.End.TheVariants.{Killed, Exited}
 use Rattle.tr_tracee.specs.declared.life.Life.TheVariants as life
@@ -9,7 +9,12 @@ use Rattle.tr_model.specs.declared.fates.Fate.TheVariants.{Pending, Delivered, F
 use Rattle.tr_model.specs.declared.replies.Did.TheVariants.{Dying, Stopping, Reported}
 use Rattle.tr_model.specs.declared.replies.Refusal.TheVariants.{Srch}
 use Rattle.tr_model.specs.Runs.{Answer, Refused, Call}
-use Rattle.tr_model.proofs.Worked.{one, two, by, mask_of, take, die_by, die, exec_by, kill, tgkill, seize_of, seize, cont, message, wait, reap, with_exit, answers, ok, nothing, sent, took, waited, told, left, tally, sums, life_at, exit_by, exit_group_by, both, three, lives, dying_after_a_continue}
+use Rattle.tr_model.specs.Tables.{Table}
+use Rattle.tr_model.specs.Ends.{end_of_dead, reported_end}
+use Rattle.tr_model.specs.Choices.{takes_instance}
+use Rattle.tr_model.specs.Steps.{work_of}
+use Rattle.tr_wait.specs.declared.status.Status.TheVariants as status
+use Rattle.tr_model.proofs.Worked.{one, two, by, mask_of, take, die_by, die, exec_by, kill, tgkill, seize_of, seize, cont, message, wait, reap, with_exit, answers, ok, nothing, sent, took, waited, told, left, tally, sums, life_at, exit_by, exit_group_by, both, three, lives, dying_after_a_continue, cont_of, interrupt_of, kill_of, mask, take_by, thread, three_groups, trap_marks, unchosen}
 
 -- Exits
 
@@ -137,3 +142,80 @@ a_kill_during_an_exec_replaces_every_end = refl
 a_kill_of_a_dying_group_changes_no_word : answers two (seize_of 11 no_options ∷ exit_group_by 10 3 ∷ kill 9 ∷ die ∷ die_by 11 ∷ wait ∷ reap ∷ []) ≡ ok ∷ ok ∷ sent 1 Delivered ∷ ok ∷ ok ∷ waited 11 0x300 1 ∷ waited 10 0x300 2 ∷ []
 unfolding in_word
 a_kill_of_a_dying_group_changes_no_word = refl
+
+-- Ends
+
+-- a second death leaves the end of a dying group to each thread
+a_kill_of_a_dying_group_changes_no_end : lives (left two (exit_group_by 10 3 ∷ kill 9 ∷ [])) ≡ life.Leaving (Exited 3) true ∷ life.Leaving (Exited 3) true ∷ []
+unfolding in_word
+a_kill_of_a_dying_group_changes_no_end = refl
+
+-- in a dying group a death tells the end of the group, else its own
+a_death_tells_the_end_of_a_dying_group : map (λ T. reported_end T (thread 11) (Exited 7)) (left two (exit_group_by 10 3 ∷ []) ∷ two ∷ []) ≡ Exited 3 ∷ Exited 7 ∷ []
+unfolding in_word
+a_death_tells_the_end_of_a_dying_group = refl
+
+-- only the dead have ended; 0 fills in for the others
+only_a_dead_thread_has_ended : map end_of_dead (life.Dead (Killed 9) ∷ life.Free ∷ life.Leaving (Killed 9) true ∷ []) ≡ Killed 9 ∷ Exited 0 ∷ Exited 0 ∷ []
+unfolding in_word
+only_a_dead_thread_has_ended = refl
+
+-- a thread serves its marks before it exits, so no journal leads to this
+abbrev exiting_with_a_mark : Table
+exiting_with_a_mark = (work_of (left two (seize_of 11 no_options ∷ interrupt_of 11 ∷ [])) (unchosen 11 (event.Exit 11 0))).table
+
+-- an exit takes the marks of its thread
+an_exit_takes_the_marks_of_its_thread : trap_marks exiting_with_a_mark ≡ false ∷ false ∷ []
+unfolding in_word
+an_exit_takes_the_marks_of_its_thread = refl
+
+-- a signal to a group without a live thread is flushed, though the group isn't dying
+a_signal_to_a_group_that_exits_is_flushed : answers one (exit_by 10 0 ∷ kill 12 ∷ []) ≡ ok ∷ sent 1 Flushed ∷ []
+unfolding in_word
+a_signal_to_a_group_that_exits_is_flushed = refl
+
+-- What a death ends and tells
+
+abbrev dying_with_two_waiting : List Call
+dying_with_two_waiting = mask (10 ∷ 12 ∷ []) ∷ kill 10 ∷ tgkill 10 12 ∷ exit_by 10 0 ∷ []
+
+-- the last death flushes the thread's own queue, then the shared one
+the_last_death_flushes_both_queues : (work_of (left one dying_with_two_waiting) (unchosen 10 (event.Die 10))).ended ≡ record { number = 2; fate = Flushed } ∷ record { number = 1; fate = Flushed } ∷ []
+unfolding in_word
+the_last_death_flushes_both_queues = refl
+
+abbrev dying_beside_a_dead_leader : Table
+dying_beside_a_dead_leader = left two (seize_of 11 no_options ∷ kill 9 ∷ die ∷ [])
+
+-- the last death is told to the tracer, then the leader's to the starter
+the_last_death_is_told_before_that_of_the_leader : (work_of dying_beside_a_dead_leader (unchosen 11 (event.Die 11))).raises ≡ record { number = 1; whom = Some 900; id = 11; status = status.Killed 9 } ∷ record { number = 2; whom = None; id = 10; status = status.Killed 9 } ∷ []
+unfolding in_word
+the_last_death_is_told_before_that_of_the_leader = refl
+
+-- a KILL is delivered, and then what a stop held is flushed
+a_kill_is_delivered_before_what_was_held_is_flushed : (work_of (left one (seize no_options ∷ kill 10 ∷ take ∷ [])) (unchosen 901 (event.Kill 10 9))).ended ≡ record { number = 2; fate = Delivered } ∷ record { number = 1; fate = Flushed } ∷ []
+unfolding in_word
+a_kill_is_delivered_before_what_was_held_is_flushed = refl
+
+-- a KILL ends what the stops of its own group hold
+a_kill_leaves_what_another_group_holds : tally three_groups (seize_of 20 no_options ∷ kill_of 20 10 ∷ take_by 20 ∷ kill 9 ∷ []) ≡ sums 2 1 0 1 0 0
+unfolding in_word
+a_kill_leaves_what_another_group_holds = refl
+
+-- what a thread takes ends the group of the thread
+a_thread_that_is_not_the_leader_ends_its_group : lives (left two (tgkill 11 15 ∷ take_by 11 ∷ [])) ≡ life.Leaving (Killed 15) true ∷ life.Leaving (Killed 15) true ∷ []
+unfolding in_word
+a_thread_that_is_not_the_leader_ends_its_group = refl
+
+-- so does a KILL that its tracer gives it
+a_kill_given_to_a_thread_ends_its_group : lives (left two (seize_of 11 no_options ∷ tgkill 11 10 ∷ take_by 11 ∷ cont_of 11 9 ∷ [])) ≡ life.Leaving (Killed 9) true ∷ life.Leaving (Killed 9) true ∷ []
+unfolding in_word
+a_kill_given_to_a_thread_ends_its_group = refl
+
+abbrev holding_beside_a_death : Table
+holding_beside_a_death = left two (seize_of 11 no_options ∷ tgkill 11 10 ∷ take_by 11 ∷ kill 15 ∷ [])
+
+-- what is taken is delivered, and then what another thread holds is flushed
+a_deadly_signal_is_delivered_before_what_is_held_is_flushed : (work_of holding_beside_a_death (record { actor = 10; event = event.Take 10; choice = takes_instance 2 })).ended ≡ record { number = 2; fate = Delivered } ∷ record { number = 1; fate = Flushed } ∷ []
+unfolding in_word
+a_deadly_signal_is_delivered_before_what_is_held_is_flushed = refl

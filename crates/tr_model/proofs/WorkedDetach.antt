@@ -13,6 +13,9 @@ use Rattle.tr_model.specs.declared.replies.Refusal.TheVariants.{Srch, Child, Inv
 use Rattle.std.specs.Prelude.{◌*◌}
 use Rattle.tr_model.specs.Steps.{work_of}
 use Rattle.tr_model.specs.Runs.{Refused, Call}
+use Rattle.tr_model.specs.Tables.{Table}
+use Rattle.tr_model.specs.Moves.{at, begin}
+use Rattle.tr_model.specs.Tracers.{held_signal, lose_tracer}
 use Rattle.tr_model.proofs.Worked.{one, two, by, take_by, take, halt_by, halt, trap, die_by, die, kill, tgkill, take_any, seize_of, seize, interrupt, listen, siginfo, tracer_exit, wait, reap, wait_stopped, wait_continued, with_exitkill, answers, ok, nothing, sent, took_with, took, waited, left, tally, sums, life_at, tracer_at, exit_by, detach_of, both, three, lives, joins, stops, unchosen, three_groups, kill_of, halting, halted, listening_to_a_cont, ending_with_three_groups}
 
 -- PTRACE_DETACH
@@ -180,3 +183,45 @@ a_dead_tracee_with_exitkill_is_sent_nothing = refl
 the_kill_of_an_ended_tracer_is_logged : (work_of (left two (seize with_exitkill ∷ [])) (unchosen 900 event.TracerExit)).killed ≡ 10 ∷ []
 unfolding in_word
 the_kill_of_an_ended_tracer_is_logged = refl
+
+-- Threads beside the leader
+
+-- a thread detached in a group-stop stays stopped, also one that isn't the leader
+a_thread_detached_beside_the_leader_stays_stopped : life_at (left two (seize_of 11 no_options ∷ kill 19 ∷ take ∷ halt ∷ halt_by 11 ∷ detach_of 11 0 ∷ [])) 11 ≡ Some life.Stopped
+unfolding in_word
+a_thread_detached_beside_the_leader_stays_stopped = refl
+
+-- The order of what the end of a tracer does
+
+abbrev two_tracees_with_exitkill : Table
+two_tracees_with_exitkill = left three_groups (seize with_exitkill ∷ seize_of 20 with_exitkill ∷ [])
+
+-- its groups begin to die in table order
+the_end_of_a_tracer_begins_each_death_in_turn : (work_of two_tracees_with_exitkill (unchosen 900 event.TracerExit)).dying ≡ 10 ∷ 20 ∷ []
+unfolding in_word
+the_end_of_a_tracer_begins_each_death_in_turn = refl
+
+-- each by a delivered KILL
+the_end_of_a_tracer_kills_each_group_in_turn : (work_of two_tracees_with_exitkill (unchosen 900 event.TracerExit)).killed ≡ 10 ∷ 20 ∷ []
+unfolding in_word
+the_end_of_a_tracer_kills_each_group_in_turn = refl
+
+-- first the KILLs, and then what each tracee holds is delivered
+the_end_of_a_tracer_kills_before_it_detaches : (work_of (left three_groups (seize no_options ∷ seize_of 20 with_exitkill ∷ kill 20 ∷ take ∷ [])) (unchosen 900 event.TracerExit)).ended ≡ record { number = 2; fate = Delivered } ∷ record { number = 1; fate = Delivered } ∷ []
+unfolding in_word
+the_end_of_a_tracer_kills_before_it_detaches = refl
+
+-- only a thread that the actor traces is left by it
+a_tracee_of_another_is_not_left : tracer_at (at 10 (lose_tracer 901) (begin (left one (seize no_options ∷ [])))).table 10 ≡ Some 900
+unfolding in_word
+a_tracee_of_another_is_not_left = refl
+
+-- a thread that holds nothing is left with no number
+what_is_not_held_is_no_signal : held_signal None ≡ 0
+unfolding in_word
+what_is_not_held_is_no_signal = refl
+
+-- the KILL of an ended tracer is delivered, and then what its tracee holds is flushed
+the_kill_of_an_ended_tracer_comes_before_what_it_flushes : (work_of (left one (seize with_exitkill ∷ kill 10 ∷ take ∷ [])) (unchosen 900 event.TracerExit)).ended ≡ record { number = 2; fate = Delivered } ∷ record { number = 1; fate = Flushed } ∷ []
+unfolding in_word
+the_kill_of_an_ended_tracer_comes_before_what_it_flushes = refl

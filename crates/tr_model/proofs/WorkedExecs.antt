@@ -13,8 +13,9 @@ use Rattle.tr_model.specs.declared.fates.Fate.TheVariants.{Pending, Delivered}
 use Rattle.tr_model.specs.declared.replies.Did.TheVariants.{Stopping, Reported}
 use Rattle.tr_model.specs.declared.replies.Refusal.TheVariants.{Srch, Child, Busy, NotDue}
 use Rattle.tr_model.specs.declared.rows.Target.TheVariants as target
-use Rattle.tr_model.specs.Runs.{Refused, Call}
+use Rattle.tr_model.specs.Runs.{Refused, Call, Entered}
 use Rattle.tr_model.specs.Tables.{members, queue}
+use Rattle.tr_model.specs.declared.replies.Reply.TheVariants as reply
 use Rattle.tr_model.proofs.Worked.{set_of, thread, acting, group_with, one, two, by, mask_of, mask, take_by, take, halt_by, halt, trap, die_by, die, exec_by, exec, finish_by, clone, kill, tgkill, attach, seize_of, seize, cont_of, cont, message_of, message, siginfo, wait, reap, with_clone, with_exec, with_exit, answers, ok, nothing, sent, took_with, took, took_attached, cloned, waited, told, told_signal, left, tally, sums, shared, own, signals_with, life_at, tracer_at, mask_at, exit_by, trap_by, attach_of, interrupt_of, options_of, wait_for, both, lives, ids, stop_marks, trap_marks, stops, attaching, attached, second_blocks_two, exec_with_waiting_signals}
 
 -- clone(2)
@@ -210,3 +211,61 @@ interrupting_an_exec = seize_of 11 no_options ∷ exec_by 11 ∷ interrupt_of 11
 a_thread_interrupted_in_its_exec_traps_after_it : answers two (interrupting_an_exec ++ mask [] ∷ trap ∷ wait ∷ []) ≡ ok ∷ ok ∷ ok ∷ ok ∷ ok ∷ Refused Busy ∷ ok ∷ waited 10 0x80057f 1 ∷ []
 unfolding in_word
 a_thread_interrupted_in_its_exec_traps_after_it = refl
+
+-- Clones beside others
+
+-- a clone of a seized tracee is sent no signal
+a_clone_of_a_seized_tracee_is_sent_nothing : own (left one cloning_traced) 11 ≡ []
+unfolding in_word new_id
+a_clone_of_a_seized_tracee_is_sent_nothing = refl
+
+-- that of an attached one is sent its SIGSTOP by the kernel
+the_stop_of_a_clone_has_no_sender : answers one (attach ∷ take ∷ options_of 10 with_clone ∷ cont 0 ∷ clone ∷ take_by 11 ∷ []) ≡ sent 1 Pending ∷ took_attached ∷ ok ∷ ok ∷ cloned 11 ∷ Entered (reply.Took 11 (record { n = 2; sig = 19; info = record { code = pos 0; pid = 0; value = pos 0 } }) Reported) ∷ []
+unfolding in_word new_id
+the_stop_of_a_clone_has_no_sender = refl
+
+-- a thread that is not the leader clones in a group-stop
+abbrev cloning_beside_the_leader : List Call
+cloning_beside_the_leader = seize_of 11 with_clone ∷ kill 19 ∷ take ∷ halt ∷ halt_by 11 ∷ cont_of 11 0 ∷ by 11 (event.CloneThread 11) ∷ []
+
+-- the thread that clones stops, and tells the id
+a_thread_that_is_not_the_leader_clones : answers two (cloning_beside_the_leader ++ wait ∷ message_of 11 ∷ []) ≡ ok ∷ sent 1 Pending ∷ took 10 1 19 Stopping ∷ ok ∷ ok ∷ ok ∷ cloned 12 ∷ waited 11 0x3057f 2 ∷ told 12 ∷ []
+unfolding in_word new_id
+a_thread_that_is_not_the_leader_clones = refl
+
+-- its clone is traced as it is
+a_clone_has_the_tracer_of_the_thread_that_cloned : tracer_at (left two cloning_beside_the_leader) 12 ≡ Some 900
+unfolding in_word new_id
+a_clone_has_the_tracer_of_the_thread_that_cloned = refl
+
+-- and has to stop as its group does
+a_clone_has_to_stop_with_its_group : stop_marks (left two cloning_beside_the_leader) ≡ false ∷ false ∷ true ∷ []
+unfolding in_word new_id
+a_clone_has_to_stop_with_its_group = refl
+
+-- Execs beside a dead leader
+
+abbrev exec_beside_a_dead_leader : List Call
+exec_beside_a_dead_leader = exit_by 10 0 ∷ die ∷ exec_by 11 ∷ []
+
+-- the last thread that lives waits for nobody, but its execve(2) is still to be done
+a_thread_beside_a_dead_leader_waits_in_its_exec : lives (left two exec_beside_a_dead_leader) ≡ life.Dead (Exited 0) ∷ life.Execing ∷ []
+unfolding in_word
+a_thread_beside_a_dead_leader_waits_in_its_exec = refl
+
+-- and then it has the leader's id
+a_thread_takes_the_place_of_a_dead_leader : answers two (exec_beside_a_dead_leader ++ finish_by 11 ∷ mask_of 11 [] ∷ mask [] ∷ []) ≡ ok ∷ ok ∷ ok ∷ ok ∷ Refused Srch ∷ ok ∷ []
+unfolding in_word
+a_thread_takes_the_place_of_a_dead_leader = refl
+
+-- What an exec ends
+
+-- what another thread holds is flushed
+an_exec_flushes_what_another_thread_holds : tally two (seize no_options ∷ tgkill 10 10 ∷ take ∷ exec_by 11 ∷ []) ≡ sums 1 0 0 0 0 1
+unfolding in_word
+an_exec_flushes_what_another_thread_holds = refl
+
+-- a leader that is alone runs on at once
+a_leader_alone_does_not_wait_in_its_exec : answers one (exec ∷ mask [] ∷ []) ≡ ok ∷ ok ∷ []
+unfolding in_word
+a_leader_alone_does_not_wait_in_its_exec = refl

@@ -8,7 +8,7 @@ use Rattle.tr_tracee.specs.Threads.{no_options}
 use Rattle.tr_group.specs.declared.stops.Action.TheVariants.{Ignore}
 use Rattle.tr_group.specs.declared.stops.GroupStop.TheVariants as gs
 use Rattle.tr_model.specs.declared.events.Event.TheVariants as event
-use Rattle.tr_model.specs.declared.fates.Fate.TheVariants.{Pending}
+use Rattle.tr_model.specs.declared.fates.Fate.TheVariants.{Pending, Delivered, Flushed, Suppressed}
 use Rattle.tr_model.specs.declared.replies.Did.TheVariants.{Reported}
 use Rattle.tr_model.specs.declared.replies.Refusal.TheVariants.{Srch, Io, Again, Busy}
 use Rattle.tr_model.specs.declared.rows.Target.TheVariants as target
@@ -16,7 +16,9 @@ use Rattle.tr_model.specs.Steps.{work_of}
 use Rattle.tr_model.specs.Runs.{Answer, Refused, Call}
 use Rattle.tr_model.specs.Sends.{info}
 use Rattle.tr_model.specs.Tables.{Table, queue}
-use Rattle.tr_model.proofs.Worked.{thread, acting, group_with, one, two, catching, mask, take, trap, die_by, die, kill, tgkill, seize_of, seize, cont, wait, reap, with_exit, answers, ok, nothing, sent, took_with, took, waited, left, tally, sums, own, life_at, exit_by, exit_group_by, lives, stops, unchosen, attaching, attached}
+use Rattle.tr_model.specs.Moves.{begin}
+use Rattle.tr_model.specs.Restarts.{inject}
+use Rattle.tr_model.proofs.Worked.{thread, acting, group_with, one, two, catching, mask, take, trap, die_by, die, kill, tgkill, seize_of, seize, cont, wait, reap, with_exit, answers, ok, nothing, sent, took_with, took, waited, left, tally, sums, own, life_at, exit_by, exit_group_by, lives, stops, unchosen, attaching, attached, blocking, cont_of, mask_of, take_by}
 
 -- Restarts
 
@@ -210,3 +212,31 @@ another_deadly_injected_signal_skips_none = refl
 another_deadly_injected_signal_is_not_logged : (work_of (left two injecting_beside_a_tracee_with_exit_stops) (unchosen 900 (event.Cont 10 15))).killed ≡ []
 unfolding in_word
 another_deadly_injected_signal_is_not_logged = refl
+
+-- Threads beside the leader
+
+abbrev injecting_beside_the_leader : List Call
+injecting_beside_the_leader = seize_of 11 no_options ∷ mask_of 11 (12 ∷ []) ∷ tgkill 11 10 ∷ take_by 11 ∷ cont_of 11 12 ∷ []
+
+-- a blocked number waits for the thread that was restarted
+an_injected_signal_waits_for_the_restarted_thread : own (left two injecting_beside_the_leader) 11 ≡ 12 ∷ []
+unfolding in_word
+an_injected_signal_waits_for_the_restarted_thread = refl
+
+-- what was held is suppressed, and then the new one is delivered
+what_was_held_is_ended_before_what_is_injected : (work_of (left (catching (12 ∷ [])) (seize no_options ∷ kill 10 ∷ take ∷ [])) (unchosen 900 (event.Cont 10 12))).ended ≡ record { number = 1; fate = Suppressed } ∷ record { number = 2; fate = Delivered } ∷ []
+unfolding in_word
+what_was_held_is_ended_before_what_is_injected = refl
+
+-- without a tracer the sender would be 0
+a_number_injected_by_nobody_has_no_sender : map (λ w. w.instance.info) (inject (blocking (12 ∷ []) 10) 12 (begin one)).table.waiting ≡ record { code = pos 0; pid = 0; value = pos 0 } ∷ []
+unfolding in_word
+a_number_injected_by_nobody_has_no_sender = refl
+
+abbrev two_hold : Table
+two_hold = left two (seize no_options ∷ seize_of 11 no_options ∷ tgkill 10 10 ∷ tgkill 11 12 ∷ take ∷ take_by 11 ∷ [])
+
+-- a deadly number is delivered, and then what another thread holds is flushed
+an_injected_signal_is_delivered_before_what_is_held_is_flushed : (work_of two_hold (unchosen 900 (event.Cont 10 15))).ended ≡ record { number = 1; fate = Suppressed } ∷ record { number = 3; fate = Delivered } ∷ record { number = 2; fate = Flushed } ∷ []
+unfolding in_word
+an_injected_signal_is_delivered_before_what_is_held_is_flushed = refl

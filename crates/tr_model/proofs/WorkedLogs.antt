@@ -1,5 +1,5 @@
 -- What the laws are made of: what steps log and what waits consume, and a journal that meets the hypotheses.
-use Rattle.std.proofs.Common.{◌≡◌, ℕ, ◌+◌, List, [], ◌∷◌, ◌++◌, Bool, true, false, Some, None, if◌then◌else◌, ◌==◌, refl, arith}
+use Rattle.std.proofs.Common.{◌≡◌, ℕ, ◌+◌, List, [], ◌∷◌, ◌++◌, Bool, true, false, Some, None, if◌then◌else◌, ◌==◌, map, refl, arith}
 use Rattle.tr_sigset.specs.Sets.{in_word}
 use Rattle.tr_wait.specs.declared.status.StopSig.TheVariants as stop_sig
 use Rattle.tr_wait.specs.declared.waits.Which.TheVariants.{Any}
@@ -12,15 +12,17 @@ use Rattle.tr_model.specs.declared.events.Event.TheVariants as event
 use Rattle.tr_model.specs.declared.replies.Reply.TheVariants as reply
 use Rattle.tr_model.specs.declared.rows.Target.TheVariants as target
 use Rattle.tr_model.specs.Causes.{cause_of, quiet_of}
-use Rattle.std.specs.Prelude.{◌≤◌}
+use Rattle.std.specs.Prelude.{◌≤◌, ◌*◌}
 use Rattle.tr_model.specs.declared.events.Entry.{Entry}
 use Rattle.tr_model.specs.Steps.{Admits, Step, after, work_of}
-use Rattle.tr_model.specs.Choices.{takes_instance, gives_report}
+use Rattle.tr_model.specs.Choices.{takes_instance, gives_report, takes_by}
 use Rattle.tr_model.specs.Laws.{ConsumesStop, RestartStandsBetween, SomeRestarts}
-use Rattle.tr_model.specs.Journals.{IsStart, Replay, taken}
+use Rattle.tr_model.specs.Journals.{IsStart, Replay, taken, consumed_by, consumer, counts, ended_by, fate_of, held_numbers, killed_by, numbers_of, occurs, queue_of, raised_by, renamed_by, waiting_numbers}
 use Rattle.tr_model.specs.Runs.{Call}
 use Rattle.tr_model.specs.Tables.{Table}
-use Rattle.tr_model.proofs.Worked.{blocking, thread, group_of, one, two, mask, take, trap, die, exec_by, finish_by, tgkill, seize_of, seize, interrupt, cont, wait, with_exec, answers, ok, waited, left, unchosen, second_blocks_two}
+use Rattle.tr_group.specs.declared.stops.Action.TheVariants.{Catch}
+use Rattle.tr_model.specs.declared.fates.Fate.TheVariants.{Delivered, Flushed, Pending, Suppressed}
+use Rattle.tr_model.proofs.Worked.{blocking, thread, group_of, one, two, mask, take, trap, die, exec_by, finish_by, tgkill, seize_of, seize, interrupt, cont, wait, with_exec, answers, ok, waited, left, unchosen, second_blocks_two, acting, any_note, cont_of, die_by, group_record, group_with, journal, kill, kill_of, leader, take_by}
 
 -- Logs
 
@@ -169,3 +171,113 @@ the_law_finds_a_restart_between_two_waits h = h one after_3 after_4 after_7 (sei
 -- without the Cont there is none: the law isn't true of everything
 no_restart_stands_where_nothing_was_entered : SomeRestarts 10 900 10 after_4 [] → ⊥
 no_restart_stands_where_nothing_was_entered h = h
+
+-- What a journal did
+
+-- two tracees hold a signal each, and two more wait
+abbrev holding_two : List Call
+holding_two = seize no_options ∷ seize_of 11 no_options ∷ tgkill 10 10 ∷ tgkill 11 12 ∷ take ∷ take_by 11 ∷ tgkill 11 15 ∷ kill 40 ∷ []
+
+-- what waits, by its numbers
+numbers_that_wait_stand_in_order_of_acceptance : waiting_numbers (left two holding_two).waiting ≡ 3 ∷ 4 ∷ []
+unfolding in_word
+numbers_that_wait_stand_in_order_of_acceptance = refl
+
+-- and what stops hold
+numbers_that_stops_hold_stand_in_table_order : held_numbers (left two holding_two).threads ≡ 1 ∷ 2 ∷ []
+unfolding in_word
+numbers_that_stops_hold_stand_in_table_order = refl
+
+abbrev ending_two : List Call
+ending_two = holding_two ++ cont 0 ∷ cont_of 11 12 ∷ []
+
+-- what the entries ended, in their order
+entries_end_signals_in_their_order : ended_by two (journal two ending_two) ≡ record { number = 1; fate = Suppressed } ∷ record { number = 2; fate = Delivered } ∷ []
+unfolding in_word
+entries_end_signals_in_their_order = refl
+
+-- by its numbers
+what_was_ended_has_its_numbers : numbers_of (ended_by two (journal two ending_two)) ≡ 1 ∷ 2 ∷ []
+unfolding in_word
+what_was_ended_has_its_numbers = refl
+
+-- a number has a fate where it was accepted
+only_an_accepted_number_has_a_fate : map (fate_of two (journal two holding_two) (left two holding_two)) (0 ∷ 1 ∷ 4 ∷ 5 ∷ []) ≡ None ∷ Some Pending ∷ Some Pending ∷ None ∷ []
+unfolding in_word
+only_an_accepted_number_has_a_fate = refl
+
+-- and counts once, for that fate
+a_number_counts_for_its_fate_alone : map (counts Flushed) (Some Flushed ∷ Some Delivered ∷ None ∷ []) ≡ 1 ∷ 0 ∷ 0 ∷ []
+unfolding in_word
+a_number_counts_for_its_fate_alone = refl
+
+-- how often a number stands in a list
+a_number_is_counted_as_often_as_it_stands : map (λ n. occurs n (2 ∷ 1 ∷ 2 ∷ [])) (1 ∷ 2 ∷ 3 ∷ []) ≡ 1 ∷ 2 ∷ 0 ∷ []
+unfolding in_word
+a_number_is_counted_as_often_as_it_stands = refl
+
+-- what the entries raised, in their order
+entries_raise_reports_in_their_order : map (λ r. r.number + 100 * r.id) (raised_by two (journal two holding_two)) ≡ 1001 ∷ 1102 ∷ []
+unfolding in_word
+entries_raise_reports_in_their_order = refl
+
+abbrev starter_entry : ℕ → Entry
+starter_entry r = record { actor = 1; event = event.StarterWait Any any_note; choice = gives_report r }
+
+-- waits consume the report that was chosen, other entries none
+waits_consume_reports_in_their_order : consumed_by (wait_entry 5 ∷ cont_entry ∷ starter_entry 6 ∷ []) ≡ 5 ∷ 6 ∷ []
+unfolding in_word
+waits_consume_reports_in_their_order = refl
+
+-- for a tracer or the starter
+a_report_is_consumed_for_a_tracer_or_the_starter : map consumer (wait_entry 5 ∷ cont_entry ∷ starter_entry 6 ∷ []) ≡ Some 900 ∷ None ∷ None ∷ []
+unfolding in_word
+a_report_is_consumed_for_a_tracer_or_the_starter = refl
+
+-- two groups of two threads
+abbrev two_pairs : Table
+two_pairs = record one { threads = thread 10 ∷ thread 11 ∷ leader 20 ∷ record (thread 21) { group = 20 } ∷ []; groups = group_record 10 ∷ group_record 20 ∷ [] }
+
+-- the ids that passed on, in their order
+ids_that_pass_on_are_logged_in_their_order : renamed_by two_pairs (journal two_pairs (exec_by 11 ∷ die ∷ finish_by 11 ∷ exec_by 21 ∷ die_by 20 ∷ finish_by 21 ∷ [])) ≡ 10 ∷ 20 ∷ []
+unfolding in_word
+ids_that_pass_on_are_logged_in_their_order = refl
+
+-- the groups that were killed, in their order
+kills_are_logged_in_their_order : killed_by two_pairs (journal two_pairs (kill_of 20 9 ∷ kill_of 10 9 ∷ [])) ≡ 20 ∷ 10 ∷ []
+unfolding in_word
+kills_are_logged_in_their_order = refl
+
+-- What a take took
+
+abbrev second_catches_two : Table
+second_catches_two = group_with (blocking (12 ∷ []) 10 ∷ thread 11 ∷ []) (acting Catch (10 ∷ 12 ∷ []))
+
+abbrev waiting_for_both : Table
+waiting_for_both = left second_catches_two (tgkill 11 10 ∷ kill 12 ∷ [])
+
+abbrev take_of_11 : ℕ → Entry
+take_of_11 n = record { actor = 11; event = event.Take 11; choice = takes_instance n }
+
+abbrev take_any_by_11 : ℕ → Entry
+take_any_by_11 n = record { actor = 900; event = event.TakeAny 10; choice = takes_by 11 n }
+
+-- a thread takes from its own queue and from the shared one
+a_take_is_of_the_own_or_the_shared_queue : map (λ n. taken waiting_for_both (take_of_11 n)) (1 ∷ 2 ∷ 3 ∷ []) ≡ Some (record { number = 1; signal = 10; queue = target.Thread 11 }) ∷ Some (record { number = 2; signal = 12; queue = target.Group 10 }) ∷ None ∷ []
+unfolding in_word
+a_take_is_of_the_own_or_the_shared_queue = refl
+
+-- also by a take of any thread
+a_take_by_any_thread_is_of_the_queue_of_its_taker : map (λ n. queue_of (taken waiting_for_both (take_any_by_11 n))) (1 ∷ 2 ∷ 3 ∷ []) ≡ Some (target.Thread 11) ∷ Some (target.Group 10) ∷ None ∷ []
+unfolding in_word
+a_take_by_any_thread_is_of_the_queue_of_its_taker = refl
+
+-- other entries take nothing
+an_entry_that_is_no_take_takes_nothing : queue_of (taken waiting_for_both cont_entry) ≡ None
+unfolding in_word
+an_entry_that_is_no_take_takes_nothing = refl
+
+-- threads that run hold nothing
+threads_that_run_hold_nothing : held_numbers two.threads ≡ []
+unfolding in_word
+threads_that_run_hold_nothing = refl

@@ -1,5 +1,5 @@
 -- What becomes of a signal that is sent: it waits, merges, or is flushed.
-use Rattle.std.proofs.Common.{◌≡◌, pos, List, [], ◌∷◌, ◌++◌, length, Some, refl}
+use Rattle.std.proofs.Common.{◌≡◌, pos, List, [], ◌∷◌, ◌++◌, length, Some, false, map, negsuc, refl}
 use Rattle.tr_sigset.specs.Sets.{in_word}
 use Rattle.tr_wait.specs.declared.waits.Which.TheVariants.{Any}
 use Rattle.tr_tracee.specs.declared.life.Life.TheVariants as life
@@ -10,8 +10,11 @@ use Rattle.tr_model.specs.declared.fates.Fate.TheVariants.{Pending, Merged, Deli
 use Rattle.tr_model.specs.declared.replies.Did.TheVariants.{Stopping}
 use Rattle.tr_model.specs.declared.replies.Refusal.TheVariants.{Perm, Child, Again, Inval, NotDue}
 use Rattle.tr_model.specs.Runs.{Refused, Call}
-use Rattle.tr_model.specs.Tables.{Table}
-use Rattle.tr_model.proofs.Worked.{set_of, blocking, thread, group_of, one, two, by, mask, action, take, halt, die_by, kill, tgkill, sigqueue, attach, seize_of, seize, wait, answers, ok, sent, took, waited, left, tally, sums, shared, own, signals_with, life_at, mask_at, exit_by, exit_group_by, both, queueing, queued, blocking_cont}
+use Rattle.tr_model.specs.Tables.{Table, owner}
+use Rattle.tr_model.specs.Sends.{is_open, is_reachable}
+use Rattle.tr_model.specs.Steps.{work_of}
+use Rattle.tr_model.specs.declared.rows.Target.TheVariants as target
+use Rattle.tr_model.proofs.Worked.{set_of, blocking, thread, group_of, one, two, by, mask, action, take, halt, die_by, kill, tgkill, sigqueue, attach, seize_of, seize, wait, answers, ok, sent, took, waited, left, tally, sums, shared, own, signals_with, life_at, mask_at, exit_by, exit_group_by, both, queueing, queued, blocking_cont, acting, group_record, group_with, kill_of, unchosen}
 
 -- Pending signals
 
@@ -224,3 +227,58 @@ a_leaving_thread_does_not_count_as_blocking = refl
 an_ignored_signal_waits_for_a_tracee : answers two (seize no_options ∷ tgkill 10 17 ∷ tgkill 11 17 ∷ []) ≡ ok ∷ sent 1 Pending ∷ sent 2 Flushed ∷ []
 unfolding in_word
 an_ignored_signal_waits_for_a_tracee = refl
+
+-- What a taker is told
+
+abbrev sending_by_each_call : List Call
+sending_by_each_call = mask (34 ∷ []) ∷ kill 34 ∷ tgkill 10 34 ∷ sigqueue (pos 7) ∷ []
+
+-- si_code is that of kill(2), tgkill(2) and sigqueue(3), si_value that of sigqueue(3)
+a_signal_tells_its_call_its_sender_and_its_value : map (λ w. w.instance.info) (left one sending_by_each_call).waiting ≡ record { code = pos 0; pid = 901; value = pos 0 } ∷ record { code = negsuc 5; pid = 901; value = pos 0 } ∷ record { code = negsuc 0; pid = 901; value = pos 7 } ∷ []
+unfolding in_word
+a_signal_tells_its_call_its_sender_and_its_value = refl
+
+-- Targets
+
+abbrev blocking_conts_of_two_groups : Table
+blocking_conts_of_two_groups = record one { threads = blocking (18 ∷ []) 10 ∷ record (blocking (18 ∷ []) 20) { group = 20 } ∷ []; groups = group_record 10 ∷ group_record 20 ∷ [] }
+
+-- a stop signal flushes SIGCONT in its own group
+a_stop_signal_leaves_a_cont_of_another_group : tally blocking_conts_of_two_groups (kill 18 ∷ kill_of 20 18 ∷ kill 20 ∷ []) ≡ sums 3 2 0 0 0 1
+unfolding in_word
+a_stop_signal_leaves_a_cont_of_another_group = refl
+
+-- a thread that is not there is neither reached nor open to a signal
+a_thread_that_is_not_there_is_not_reached : is_reachable one (target.Thread 99) ∷ is_open one 17 (target.Thread 99) ∷ [] ≡ false ∷ false ∷ []
+unfolding in_word
+a_thread_that_is_not_there_is_not_reached = refl
+
+-- its queue is no group's
+the_queue_of_a_thread_that_is_not_there_has_no_owner : owner one (target.Thread 99) ≡ 0
+unfolding in_word
+the_queue_of_a_thread_that_is_not_there_has_no_owner = refl
+
+-- a signal whose action is to ignore it is flushed at once
+a_signal_with_an_action_that_ignores_is_flushed : answers (group_with (thread 10 ∷ []) (acting Ignore (12 ∷ []))) (kill 12 ∷ []) ≡ sent 1 Flushed ∷ []
+unfolding in_word
+a_signal_with_an_action_that_ignores_is_flushed = refl
+
+abbrev ignoring_by_the_second_thread : List Call
+ignoring_by_the_second_thread = tgkill 11 10 ∷ by 11 (event.SetAction 11 10 Ignore) ∷ []
+
+-- an action is of the whole group, whichever thread sets it
+an_action_of_any_thread_is_that_of_its_group : signals_with Ignore (left both_block_two ignoring_by_the_second_thread) ≡ 10 ∷ []
+unfolding in_word
+an_action_of_any_thread_is_that_of_its_group = refl
+
+-- and flushes in all its queues
+an_action_of_any_thread_flushes_in_its_group : tally both_block_two ignoring_by_the_second_thread ≡ sums 1 0 0 0 0 1
+unfolding in_word
+an_action_of_any_thread_flushes_in_its_group = refl
+
+-- The order of endings
+
+-- SIGCONT flushes the stop signals, and is then flushed itself
+a_cont_flushes_before_it_is_flushed : (work_of (left one (mask (20 ∷ []) ∷ kill 20 ∷ [])) (unchosen 901 (event.Kill 10 18))).ended ≡ record { number = 1; fate = Flushed } ∷ record { number = 2; fate = Flushed } ∷ []
+unfolding in_word
+a_cont_flushes_before_it_is_flushed = refl

@@ -10,7 +10,7 @@ use Rattle.tr_model.specs.declared.fates.Fate.TheVariants.{Pending, Delivered, F
 use Rattle.tr_model.specs.declared.replies.Did.TheVariants.{Stopping, Reported, Ignored}
 use Rattle.tr_model.specs.declared.replies.Refusal.TheVariants.{Srch, Io, Inval, Busy, NotDue, Unmodelled}
 use Rattle.tr_model.specs.Runs.{Answer, Refused, Call}
-use Rattle.tr_model.proofs.Worked.{one, two, mask, take_by, take, halt_by, halt, trap, kill, attach, seize, interrupt, cont, listen, message, siginfo, wait, reap, wait_stopped, wait_continued, answers, ok, nothing, sent, took_with, took, took_attached, waited, left, tally, sums, shared, life_at, attach_of, detach_of, both, three, lives, joins, stop_marks, note_marks, stops, blocking_cont, listening_to_a_cont}
+use Rattle.tr_model.proofs.Worked.{one, two, mask, take_by, take, halt_by, halt, trap, kill, attach, seize, interrupt, cont, listen, message, siginfo, wait, reap, wait_stopped, wait_continued, answers, ok, nothing, sent, took_with, took, took_attached, waited, left, tally, sums, shared, life_at, attach_of, detach_of, both, three, lives, joins, stop_marks, note_marks, stops, blocking_cont, listening_to_a_cont, interrupt_of, seize_of, trap_by}
 
 -- Group-stops
 
@@ -239,3 +239,25 @@ a_trapped_tracee_has_joined_the_group_stop = refl
 a_trap_in_a_group_stop_takes_its_mark_away : stop_marks (left two interrupting_in_a_group_stop) ≡ false ∷ true ∷ []
 unfolding in_word
 a_trap_in_a_group_stop_takes_its_mark_away = refl
+
+-- Threads beside the leader
+
+-- a trap in a group-stop is of its thread, which then takes part
+a_thread_that_traps_beside_the_leader_joins_the_group_stop : joins (left two (seize_of 11 no_options ∷ interrupt_of 11 ∷ kill 19 ∷ take ∷ trap_by 11 ∷ [])) ≡ false ∷ true ∷ []
+unfolding in_word
+a_thread_that_traps_beside_the_leader_joins_the_group_stop = refl
+
+-- a stopped thread that isn't the leader is seized in the event stop of its group
+a_thread_seized_beside_the_leader_shows_the_group_stop : answers two (kill 20 ∷ take ∷ halt ∷ halt_by 11 ∷ seize_of 11 no_options ∷ wait ∷ []) ≡ sent 1 Pending ∷ took 10 1 20 Stopping ∷ ok ∷ ok ∷ ok ∷ waited 11 0x80147f 2 ∷ []
+unfolding in_word
+a_thread_seized_beside_the_leader_shows_the_group_stop = refl
+
+-- one that has still to stop runs on until it halts
+a_thread_seized_before_it_stops_shows_nothing_yet : answers two (kill 20 ∷ take ∷ seize_of 11 no_options ∷ wait ∷ halt_by 11 ∷ wait ∷ []) ≡ sent 1 Pending ∷ took 10 1 20 Stopping ∷ ok ∷ nothing ∷ ok ∷ waited 11 0x80147f 1 ∷ []
+unfolding in_word
+a_thread_seized_before_it_stops_shows_nothing_yet = refl
+
+-- a wait gives the report of a thread that isn't the leader once
+a_report_beside_the_leader_is_given_once : answers two (seize_of 11 no_options ∷ interrupt_of 11 ∷ trap_by 11 ∷ wait ∷ wait ∷ []) ≡ ok ∷ ok ∷ ok ∷ waited 11 0x80057f 1 ∷ nothing ∷ []
+unfolding in_word
+a_report_beside_the_leader_is_given_once = refl

@@ -1,15 +1,16 @@
 -- Which signal a thread takes, and what it does with it.
-use Rattle.std.proofs.Common.{◌≡◌, ℕ, pos, List, [], ◌∷◌, ◌++◌, length, true, false, Some, map, replicate, refl}
+use Rattle.std.proofs.Common.{◌≡◌, ℕ, pos, List, [], ◌∷◌, ◌++◌, length, true, false, Some, map, replicate, negsuc, refl}
 use Rattle.tr_sigset.specs.Sets.{in_word}
 use Rattle.tr_tracee.specs.declared.life.Life.TheVariants as life
-use Rattle.tr_group.specs.declared.stops.Action.TheVariants.{Catch}
+use Rattle.tr_group.specs.declared.stops.Action.TheVariants.{Catch, Ignore}
 use Rattle.tr_model.specs.Preferred.{new_id}
 use Rattle.tr_model.specs.declared.fates.Fate.TheVariants.{Pending, Flushed}
-use Rattle.tr_model.specs.declared.replies.Did.TheVariants.{Caught, Dying, Stopping}
+use Rattle.tr_model.specs.declared.replies.Did.TheVariants.{Caught, Dying, Stopping, Ignored}
 use Rattle.tr_model.specs.declared.replies.Refusal.TheVariants.{Again, NotRunning}
 use Rattle.tr_model.specs.Runs.{Answer, Refused, Call}
 use Rattle.tr_model.specs.Tables.{Table, thread_of}
-use Rattle.tr_model.proofs.Worked.{count_up, blocking, acting, group_with, one, catching, mask_of, mask, action, take, halt, clone, kill, sigqueue, take_any, answers, ok, nothing, sent, took, cloned, left, tally, sums, shared, life_at, pausing_in, lives, pause, queueing, queued, taking_four, took_four}
+use Rattle.tr_model.specs.declared.events.Event.TheVariants as event
+use Rattle.tr_model.proofs.Worked.{count_up, blocking, acting, group_with, one, catching, mask_of, mask, action, take, halt, clone, kill, sigqueue, take_any, answers, ok, nothing, sent, took, cloned, left, tally, sums, shared, life_at, pausing_in, lives, pause, queueing, queued, taking_four, took_four, by, group_of, take_by, tgkill, thread, took_with}
 
 -- The order of takes
 
@@ -162,3 +163,30 @@ the_only_thread_that_does_not_block_a_signal_catches_it = refl
 a_caught_signal_that_every_thread_blocks_is_not_taken : answers (sixty_four (12 ∷ [])) (kill 12 ∷ take_any ∷ []) ≡ sent 1 Pending ∷ nothing ∷ []
 unfolding in_word
 a_caught_signal_that_every_thread_blocks_is_not_taken = refl
+
+-- What a taker does
+
+-- SIGSEGV ends the group by default
+a_signal_that_dumps_core_ends_the_group : answers one (kill 11 ∷ take ∷ []) ≡ sent 1 Pending ∷ took 10 1 11 Dying ∷ []
+unfolding in_word
+a_signal_that_dumps_core_ends_the_group = refl
+
+-- a blocked SIGCHLD waits, and is then ignored by default
+a_signal_ignored_by_default_is_taken_and_does_nothing : answers (group_of (blocking (17 ∷ []) 10 ∷ [])) (kill 17 ∷ mask [] ∷ take ∷ mask [] ∷ []) ≡ sent 1 Pending ∷ ok ∷ took 10 1 17 Ignored ∷ ok ∷ []
+unfolding in_word
+a_signal_ignored_by_default_is_taken_and_does_nothing = refl
+
+-- so is a blocked signal whose action is to ignore it
+a_signal_ignored_by_its_action_is_taken_and_does_nothing : answers (group_with (blocking (10 ∷ []) 10 ∷ []) (acting Ignore (10 ∷ []))) (kill 10 ∷ mask [] ∷ take ∷ mask [] ∷ []) ≡ sent 1 Pending ∷ ok ∷ took 10 1 10 Ignored ∷ ok ∷ []
+unfolding in_word
+a_signal_ignored_by_its_action_is_taken_and_does_nothing = refl
+
+-- a caught signal ends the pause of the thread that takes it, by the action of its group
+a_caught_signal_ends_the_pause_of_its_taker : answers (group_with (thread 10 ∷ thread 11 ∷ []) (acting Catch (12 ∷ []))) (by 11 (event.Pause 11) ∷ tgkill 11 12 ∷ take_by 11 ∷ mask_of 11 [] ∷ []) ≡ ok ∷ sent 1 Pending ∷ took_with 11 1 12 (negsuc 5) 901 (pos 0) Caught ∷ ok ∷ []
+unfolding in_word
+a_caught_signal_ends_the_pause_of_its_taker = refl
+
+-- and it is delivered once
+a_signal_that_does_nothing_is_delivered : tally (group_of (blocking (17 ∷ []) 10 ∷ [])) (kill 17 ∷ mask [] ∷ take ∷ []) ≡ sums 1 0 0 1 0 0
+unfolding in_word
+a_signal_that_does_nothing_is_delivered = refl
