@@ -6,7 +6,7 @@ use Rattle.tr_scenario.specs.declared.faults.ScenarioFault.TheVariants.{ReadFaul
 use Rattle.tr_scenario.specs.Printing.{IsHalt}
 use Rattle.tr_scenario.specs.Serial.{Devices}
 use Rattle.tr_scenario.specs.Sources.{IsSound, IsToBlame}
-use Rattle.tr_live.specs.Dialogues.{dialogue_text, said, silence}
+use Rattle.tr_live.specs.Dialogues.{IsDialogue, IsSaid, silence}
 
 -- these bytes came, and the reader told its end
 pub record HasEnded (old new : Devices) (bytes : List ℕ) : Type 0 where
@@ -17,14 +17,18 @@ pub record HasEnded (old new : Devices) (bytes : List ℕ) : Type 0 where
 -- all that came was answered
 pub record IsAnswered (old new : Devices) (bytes : List ℕ) : Type 0 where
   pub ended : HasEnded old new bytes
-  pub text : new.taken ≡ old.taken ++ dialogue_text bytes
+  pub said : List ℕ
+  pub dialogue : IsDialogue bytes said
+  pub text : new.taken ≡ old.taken ++ said
   pub failures : new.failures ≡ old.failures
 
 -- the reader failed, and each line that it gave before was answered
 pub record IsBroken (old new : Devices) (bytes : List ℕ) : Type 0 where
   pub came : new.reader.given ≡ old.reader.given ++ bytes
   pub cause : IsToBlame old.reader new.reader
-  pub text : new.taken ≡ old.taken ++ said silence bytes
+  pub said : List ℕ
+  pub answers : IsSaid silence bytes said
+  pub text : new.taken ≡ old.taken ++ said
   pub failures : new.failures ≡ old.failures
 
 -- more came than a dialogue takes, and each line that ended was answered
@@ -32,14 +36,18 @@ pub record IsTooLong (old new : Devices) (bytes : List ℕ) : Type 0 where
   pub came : new.reader.given ≡ old.reader.given ++ bytes
   pub long : 2 ^ 63 ≤ length bytes
   pub sound : IsSound old.reader new.reader
-  pub text : new.taken ≡ old.taken ++ said silence bytes
+  pub said : List ℕ
+  pub answers : IsSaid silence bytes said
+  pub text : new.taken ≡ old.taken ++ said
   pub failures : new.failures ≡ old.failures
 
 -- memory was refused or the writer failed, and a front of the answers was written
 pub record IsHalted (old new : Devices) (bytes : List ℕ) (e : ScenarioFault) : Type 0 where
   pub came : new.reader.given ≡ old.reader.given ++ bytes
   pub sound : IsSound old.reader new.reader
-  pub front : IsFront old.taken new.taken (dialogue_text bytes)
+  pub said : List ℕ
+  pub dialogue : IsDialogue bytes said
+  pub front : IsFront old.taken new.taken said
   pub cause : IsHalt e old.failures new.failures
 
 -- a dialogue comes to its end, or halts

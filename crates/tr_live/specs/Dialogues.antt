@@ -1,5 +1,6 @@
 -- What is answered, line by line.
-use Rattle.std.specs.Prelude.{ℕ, ◌==◌, List, [], ◌∷◌, ◌++◌, Option, Some, None, Result, Ok, Err, codes, if◌then◌else◌, length, nat_le, replicate}
+use Rattle.std.specs.Prelude.{◌≡◌, ℕ, ◌==◌, Bool, true, false, List, [], ◌∷◌, ◌++◌, Option, Some, None, Result, Ok, Err, codes, if◌then◌else◌, length, nat_le, not, replicate}
+use Rattle.serde_json.specs.Data.{Data}
 use Rattle.tr_tracee.specs.declared.thread.Thread.{Thread}
 use Rattle.tr_model.specs.declared.fates.Totals.{Totals}
 use Rattle.tr_model.specs.declared.replies.Refusal.TheVariants.{Srch}
@@ -19,7 +20,7 @@ use Rattle.tr_scenario.specs.Kernels.{so_far}
 use Rattle.tr_scenario.specs.Lines.{totals_line}
 use Rattle.tr_scenario.specs.Replies.{refusal_text}
 use Rattle.tr_scenario.specs.RunTexts.{call_of, call_text, calls_text, state_after}
-use Rattle.tr_mistakes.specs.Texts.{mistake_in}
+use Rattle.tr_mistakes.specs.Texts.{IsTold}
 use Rattle.tr_live.specs.declared.commands.Command.{Command}
 use Rattle.tr_live.specs.declared.commands.Command.TheVariants.{Make, ShowStatus, ShowTable, ShowTotals}
 use Rattle.tr_live.specs.Commands.{command_of, line_read, longest, opening_of}
@@ -95,14 +96,28 @@ abbrev pub opened : List ℕ → Result Start ScenarioFault → Answer
 opened told (Err e) = record { text = refused_line e told; session = None }
 opened told (Ok s) = record { text = codes "started\n"; session = Some (begun s) }
 
--- the first line that isn't refused opens a kernel, and those after it command it
-abbrev pub answer : Option Session → List ℕ → Answer
-answer None line = opened (mistake_in opening_mistake longest line) (line_read opening_of line)
-answer (Some s) line = commanded s (mistake_in command_mistake longest line) (line_read command_of line)
+-- the first line that isn't refused opens a kernel, and those after it command it; so much is told of a line that is refused
+abbrev pub answer : List ℕ → Option Session → List ℕ → Answer
+answer told None line = opened told (line_read opening_of line)
+answer told (Some s) line = commanded s told (line_read command_of line)
+
+-- nothing is told of a line that is read
+abbrev pub ToldOf : {X : Type 0} → (Data → List ℕ) → List ℕ → Result X ScenarioFault → List ℕ → Type 0
+ToldOf mistake line (Ok x) told = told ≡ []
+ToldOf mistake line (Err e) told = IsTold mistake longest line e told
+
+-- this may be told of a line
+abbrev pub MayTell : Option Session → List ℕ → List ℕ → Type 0
+MayTell None line told = ToldOf opening_mistake line (line_read opening_of line) told
+MayTell (Some s) line told = ToldOf command_mistake line (line_read command_of line) told
+
+-- the kernel after a line, whatever is told of it
+abbrev pub session_after : Option Session → List ℕ → Option Session
+session_after s line = (answer [] s line).session
 
 -- an empty line stands behind each answer
-abbrev pub answer_text : Option Session → List ℕ → List ℕ
-answer_text s line = (answer s line).text ++ codes "\n"
+abbrev pub IsAnswer : Option Session → List ℕ → List ℕ → Type 0
+IsAnswer s line text = (told : List ℕ) × MayTell s line told × (text ≡ (answer told s line).text ++ codes "\n")
 
 -- Dialogues
 
@@ -112,26 +127,31 @@ longer line b = if nat_le (length line) longest then line ++ b ∷ [] else line
 
 -- after a byte: a newline ends the line
 abbrev pub heard_byte : Dialogue → ℕ → Dialogue
-heard_byte d b = if b == 10 then record { session = (answer d.session d.line).session; line = [] } else record { session = d.session; line = longer d.line b }
-
--- what is answered to it
-abbrev pub said_to_byte : Dialogue → ℕ → List ℕ
-said_to_byte d b = if b == 10 then answer_text d.session d.line else []
+heard_byte d b = if b == 10 then record { session = session_after d.session d.line; line = [] } else record { session = d.session; line = longer d.line b }
 
 -- after bytes
 abbrev pub heard : Dialogue → List ℕ → Dialogue
 heard d [] = d
 heard d (b ∷ bs) = heard (heard_byte d b) bs
 
--- what is answered to them
-abbrev pub said : Dialogue → List ℕ → List ℕ
-said d [] = []
-said d (b ∷ bs) = said_to_byte d b ++ said (heard_byte d b) bs
+-- a line that ended is answered
+abbrev pub IsAnsweredIf : Bool → Dialogue → List ℕ → Type 0
+IsAnsweredIf true d text = IsAnswer d.session d.line text
+IsAnsweredIf false d text = text ≡ []
 
--- what is answered at the end of the bytes to a line that no newline ended
-abbrev pub said_last : Dialogue → List ℕ
-said_last d = if length d.line == 0 then [] else answer_text d.session d.line
+-- this is said to a byte
+abbrev pub IsSaidTo : Dialogue → ℕ → List ℕ → Type 0
+IsSaidTo d b text = IsAnsweredIf (b == 10) d text
 
--- all that is answered to these bytes
-abbrev pub dialogue_text : List ℕ → List ℕ
-dialogue_text bytes = said silence bytes ++ said_last (heard silence bytes)
+-- this is said to bytes
+abbrev pub IsSaid : Dialogue → List ℕ → List ℕ → Type 0
+IsSaid d [] text = text ≡ []
+IsSaid d (b ∷ bs) text = (first : List ℕ) × (rest : List ℕ) × IsSaidTo d b first × IsSaid (heard_byte d b) bs rest × (text ≡ first ++ rest)
+
+-- this is said at the end of the bytes to a line that no newline ended
+abbrev pub IsSaidLast : Dialogue → List ℕ → Type 0
+IsSaidLast d text = IsAnsweredIf (not (length d.line == 0)) d text
+
+-- this is all that is said to bytes
+abbrev pub IsDialogue : List ℕ → List ℕ → Type 0
+IsDialogue bytes text = (before : List ℕ) × (last : List ℕ) × IsSaid silence bytes before × IsSaidLast (heard silence bytes) last × (text ≡ before ++ last)

@@ -1,6 +1,6 @@
-ghost use Rattle.std.specs.Prelude.{◌≡◌, ◌<◌, ◌-◌, ◌^◌, [], OnOk, option_map};
+ghost use Rattle.std.specs.Prelude.{◌≡◌, ◌<◌, ◌-◌, ◌^◌, ℕ, List, [], OnOk, option_map};
 ghost use Rattle.tr_scenario.specs.Printing.{Prints};
-ghost use Rattle.tr_live.specs.Dialogues.{answer, answer_text, heard, heard_byte, longer, said, said_last, said_to_byte, session_of, silence};
+ghost use Rattle.tr_live.specs.Dialogues.{IsAnswer, IsSaid, IsSaidLast, IsSaidTo, heard, heard_byte, longer, session_after, session_of, silence};
 
 use crate::commands::LONGEST;
 use crate::replies::fill_answer;
@@ -59,8 +59,9 @@ impl Dialogue {
     /// the dialogue is over: `NoMemory` or `WriteFault`, and a front of the answers was printed.
     pub fn hear<W: Sink>(&mut self, bytes: &[u8], writer: &mut W) -> Result<(), ScenarioFault>
         requires { W.failures writer.old < 2 ^ 64 - 1 }
-        ensures said { Prints W.taken W.failures writer.old writer.new
-            (said self.old bytes.now) result }
+        ensures said { (said : List ℕ)
+            × IsSaid self.old bytes.now said
+            × Prints W.taken W.failures writer.old writer.new said result }
         ensures heard { OnOk result (self.new ≡ heard self.old bytes.now) }
     {
         for byte in bytes {
@@ -71,8 +72,9 @@ impl Dialogue {
 
     fn hear_byte<W: Sink>(&mut self, byte: u8, writer: &mut W) -> Result<(), ScenarioFault>
         requires { W.failures writer.old < 2 ^ 64 - 1 }
-        ensures said { Prints W.taken W.failures writer.old writer.new
-            (said_to_byte self.old byte) result }
+        ensures said { (said : List ℕ)
+            × IsSaidTo self.old byte said
+            × Prints W.taken W.failures writer.old writer.new said result }
         ensures heard { OnOk result (self.new ≡ heard_byte self.old byte) }
     {
         if byte == b'\n' {
@@ -100,10 +102,11 @@ impl Dialogue {
     /// Prints the answer to the line, which begins anew.
     fn answer<W: Sink>(&mut self, writer: &mut W) -> Result<(), ScenarioFault>
         requires { W.failures writer.old < 2 ^ 64 - 1 }
-        ensures said { Prints W.taken W.failures writer.old writer.new
-            (answer_text self.old.session self.old.line) result }
+        ensures said { (said : List ℕ)
+            × IsAnswer self.old.session self.old.line said
+            × Prints W.taken W.failures writer.old writer.new said result }
         ensures heard { OnOk result (self.new
-            ≡ record { session = (answer self.old.session self.old.line).session; line = [] }) }
+            ≡ record { session = session_after self.old.session self.old.line; line = [] }) }
     {
         print_answer(
             self.alloc,
@@ -119,7 +122,9 @@ impl Dialogue {
     /// Prints the answer to a line that no newline ended, where there is one.
     pub fn end<W: Sink>(mut self, writer: &mut W) -> Result<(), ScenarioFault>
         requires { W.failures writer.old < 2 ^ 64 - 1 }
-        ensures { Prints W.taken W.failures writer.old writer.new (said_last self) result }
+        ensures { (said : List ℕ)
+            × IsSaidLast self said
+            × Prints W.taken W.failures writer.old writer.new said result }
     {
         if self.line.is_empty() {
             return Ok(());
@@ -137,10 +142,11 @@ fn print_answer<W: Sink>(
     writer: &mut W,
 ) -> Result<(), ScenarioFault>
     requires { W.failures writer.old < 2 ^ 64 - 1 }
-    ensures said { Prints W.taken W.failures writer.old writer.new
-        (answer_text (option_map session_of kernel.old) line.now) result }
+    ensures said { (said : List ℕ)
+        × IsAnswer (option_map session_of kernel.old) line.now said
+        × Prints W.taken W.failures writer.old writer.new said result }
     ensures session { OnOk result (option_map session_of kernel.new
-        ≡ (answer (option_map session_of kernel.old) line.now).session) }
+        ≡ session_after (option_map session_of kernel.old) line.now) }
 {
     page.clear();
     fill_answer(alloc, kernel, line, page, writer)?;

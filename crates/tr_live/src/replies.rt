@@ -1,19 +1,19 @@
-ghost use Rattle.std.specs.Prelude.{◌≡◌, ◌≢◌, ◌<◌, ◌-◌, ◌^◌, ◌++◌, [], IfErr, IfOk, MatchOption, None, OnOk, Some, codes, option_map};
+ghost use Rattle.std.specs.Prelude.{◌≡◌, ◌≢◌, ◌<◌, ◌-◌, ◌^◌, ℕ, List, ◌++◌, [], IfErr, IfOk, MatchOption, None, OnOk, Some, codes, option_map};
 ghost use Rattle.tr_model.specs.Tables.{thread_of};
 ghost use Rattle.tr_scenario.specs.declared.faults.ScenarioFault.TheVariants.{NoMemory};
 ghost use Rattle.tr_scenario.specs.Lines.{totals_line};
 ghost use Rattle.tr_scenario.specs.Printing.{Fills};
 ghost use Rattle.tr_live.specs.declared.commands.Command.TheVariants.{Make};
-ghost use Rattle.tr_mistakes.specs.Texts.{mistake_in};
+ghost use Rattle.tr_mistakes.specs.Texts.{IsTold};
 ghost use Rattle.tr_live.specs.Commands.{command_of, line_read, longest, opening_of};
 ghost use Rattle.tr_live.specs.Mistakes.{command_mistake, opening_mistake};
-ghost use Rattle.tr_live.specs.Dialogues.{answer, commanded, obeyed, opened, refused_line, session_of, status_or_refusal, table_text, totals_of};
+ghost use Rattle.tr_live.specs.Dialogues.{MayTell, ToldOf, answer, commanded, obeyed, opened, refused_line, session_after, session_of, status_or_refusal, table_text, totals_of};
 
 use crate::commands::{Command, LONGEST, read_command, read_opening};
 use crate::mistakes::Opening;
 use std::alloc::{AllocError, Global};
 use tr_kernel::Kernel;
-use tr_mistakes::{Mistaken, push_mistake};
+use tr_mistakes::{Mistaken, push_told};
 use tr_model::Refusal;
 use tr_scenario::{
     LineBuffer, Lines, Page, ScenarioFault, compose_totals, fill_calls, open, refusal_text,
@@ -33,10 +33,12 @@ pub(crate) fn fill_answer<W: Sink>(
     writer: &mut W,
 ) -> Result<(), ScenarioFault>
     requires { W.failures writer.old < 2 ^ 64 - 1 }
-    ensures fills { Fills W.taken W.failures writer.old writer.new page.old page.new
-        (answer (option_map session_of kernel.old) line.now).text result }
+    ensures fills { (told : List ℕ)
+        × MayTell (option_map session_of kernel.old) line.now told
+        × Fills W.taken W.failures writer.old writer.new page.old page.new
+        (answer told (option_map session_of kernel.old) line.now).text result }
     ensures session { OnOk result (option_map session_of kernel.new
-        ≡ (answer (option_map session_of kernel.old) line.now).session) }
+        ≡ session_after (option_map session_of kernel.old) line.now) }
 {
     match kernel {
         Some(kernel) => fill_command(alloc, kernel, line, page, writer),
@@ -56,10 +58,11 @@ fn push_opening(
     line: &[u8],
     page: &mut Page,
 ) -> Result<Option<Kernel>, ScenarioFault>
-    ensures text { OnOk result (page.new
-        ≡ page.old ++ (opened (mistake_in opening_mistake longest line.now) (line_read opening_of line.now)).text) }
+    ensures text { OnOk result ((told : List ℕ)
+        × ToldOf opening_mistake line.now (line_read opening_of line.now) told
+        × (page.new ≡ page.old ++ (opened told (line_read opening_of line.now)).text)) }
     ensures session { IfOk result (λ k. option_map session_of k
-        ≡ (opened (mistake_in opening_mistake longest line.now) (line_read opening_of line.now)).session) }
+        ≡ (opened [] (line_read opening_of line.now)).session) }
     ensures err { IfErr result (λ e. e ≡ NoMemory) }
 {
     match read_opening(alloc, line) {
@@ -85,12 +88,12 @@ fn fill_command<W: Sink>(
     writer: &mut W,
 ) -> Result<(), ScenarioFault>
     requires { W.failures writer.old < 2 ^ 64 - 1 }
-    ensures fills { Fills W.taken W.failures writer.old writer.new page.old page.new
-        (commanded (session_of kernel.old) (mistake_in command_mistake longest line.now)
-        (line_read command_of line.now)).text result }
+    ensures fills { (told : List ℕ)
+        × ToldOf command_mistake line.now (line_read command_of line.now) told
+        × Fills W.taken W.failures writer.old writer.new page.old page.new
+        (commanded (session_of kernel.old) told (line_read command_of line.now)).text result }
     ensures session { OnOk result (Some (session_of kernel.new)
-        ≡ (commanded (session_of kernel.old) (mistake_in command_mistake longest line.now)
-        (line_read command_of line.now)).session) }
+        ≡ (commanded (session_of kernel.old) [] (line_read command_of line.now)).session) }
 {
     match read_command(alloc, line) {
         Ok(Command::Make(step)) => fill_calls::<Lines, W>(kernel, &step, page, writer),
@@ -121,7 +124,7 @@ fn push_shown(page: &mut Page, kernel: &Kernel, command: Command) -> Result<(), 
     }
 }
 
-/// Appends that a line is refused for a fault, and its first mistake.
+/// Appends that a line is refused for a fault, and its first mistake; of what is no JSON, where it stops to be.
 fn push_refused<T: Mistaken>(
     alloc: Global,
     page: &mut Page,
@@ -129,11 +132,13 @@ fn push_refused<T: Mistaken>(
     line: &[u8],
 ) -> Result<(), AllocError>
     ensures { OnOk result
-        (page.new ≡ page.old ++ refused_line fault (mistake_in T.mistake longest line.now)) }
+        ((told : List ℕ)
+        × IsTold T.mistake longest line.now fault told
+        × (page.new ≡ page.old ++ refused_line fault told)) }
 {
     page.push(b"refused ")?;
     page.push(fault.name().as_bytes())?;
-    push_mistake::<T>(alloc, page, LONGEST, line)?;
+    push_told::<T>(alloc, page, LONGEST, line, fault)?;
     page.push(b"\n")
 }
 

@@ -1,8 +1,9 @@
 -- What is told of bytes that are refused.
-use Rattle.std.specs.Prelude.{ℕ, ◌==◌, nat_le, List, [], ◌∷◌, ◌++◌, Result, Ok, Err, codes, decimal, if◌then◌else◌, length}
+use Rattle.std.specs.Prelude.{◌≡◌, ℕ, ◌==◌, nat_le, List, [], ◌∷◌, ◌++◌, Result, Ok, Err, codes, decimal, if◌then◌else◌, length}
 use Rattle.serde_json.specs.Data.{Data}
 use Rattle.tr_status.specs.Texts.{texts}
 use Rattle.tr_scenario.specs.declared.faults.ScenarioFault.{ScenarioFault}
+use Rattle.tr_scenario.specs.declared.faults.ScenarioFault.TheVariants.{NotJson}
 use Rattle.tr_scenario.specs.Scenarios.{json_of}
 
 -- a place doesn't begin with a dot
@@ -25,3 +26,9 @@ mistake_in mistake most bytes =
 -- where a text stops to be JSON
 abbrev pub position_text : ℕ → ℕ → List ℕ
 position_text line column = texts (codes ": line " ∷ decimal line ∷ codes ", column " ∷ decimal column ∷ [])
+
+-- what is told of bytes that a fault refuses: some line and column, as serde_json counts them, of what is no JSON; else the first
+-- mistake
+abbrev pub IsTold : (Data → List ℕ) → ℕ → List ℕ → ScenarioFault → List ℕ → Type 0
+IsTold mistake most bytes NotJson told = (line : ℕ) × (column : ℕ) × (told ≡ position_text line column)
+IsTold mistake most bytes _ told = told ≡ mistake_in mistake most bytes

@@ -14,6 +14,6 @@ mod workers;
 pub use groups::push_start_mistake;
 pub use lists::{Mistaken, refused};
 pub use parts::{is_object, push_keys_mistake, push_object_wanted, push_wanted_at};
-pub use texts::{all_mistakes_are_told, push_mistake, push_position};
+pub use texts::{all_mistakes_are_told, push_told};
 pub use wanted::Wanted;
 pub use wholes::{push_bad_start, push_twice};

@@ -1,8 +1,8 @@
-ghost use Rattle.std.specs.Prelude.{◌≡◌, ℕ, ◌++◌, ◌∷◌, [], OnOk, codes, decimal};
+ghost use Rattle.std.specs.Prelude.{◌≡◌, ℕ, List, ◌++◌, ◌∷◌, [], OnOk, codes, decimal};
 ghost use Rattle.serde_json.specs.View.{view};
 ghost use Rattle.tr_status.specs.Texts.{texts};
 ghost use Rattle.tr_mistakes.specs.Told.{IsAllTold};
-ghost use Rattle.tr_mistakes.specs.Texts.{mistake_in, position_text, undotted};
+ghost use Rattle.tr_mistakes.specs.Texts.{IsTold, mistake_in, position_text, undotted};
 
 use crate::lists::Mistaken;
 use serde_json::Value;
@@ -10,9 +10,28 @@ use std::alloc::{AllocError, Global};
 use tr_scenario::{Page, ScenarioFault, json};
 use tr_text::TextBuffer;
 
-/// Appends the first mistake of bytes that aren't read as such a value, of which `most` are allowed. Nothing is appended where
-/// they are no JSON.
-pub fn push_mistake<T: Mistaken>(
+/// Appends what is told of bytes that a fault refuses: the line and the column at which `serde_json` finds that they are no JSON,
+/// else the first mistake of what isn't read as such a value, of which `most` bytes are allowed.
+pub fn push_told<T: Mistaken>(
+    alloc: Global,
+    page: &mut Page,
+    most: usize,
+    bytes: &[u8],
+    fault: ScenarioFault,
+) -> Result<(), AllocError>
+    ensures { OnOk result
+        ((told : List ℕ)
+        × IsTold T.mistake most bytes.now fault told
+        × (page.new ≡ page.old ++ told)) }
+{
+    match fault {
+        ScenarioFault::NotJson => push_position(alloc, page, bytes),
+        _ => push_mistake::<T>(alloc, page, most, bytes),
+    }
+}
+
+/// Appends the first mistake of bytes. Nothing is appended where they are no JSON.
+fn push_mistake<T: Mistaken>(
     alloc: Global,
     page: &mut Page,
     most: usize,
@@ -66,8 +85,7 @@ fn push_undotted(page: &mut Page, mistake: &[u8]) -> Result<(), AllocError>
     }
 }
 
-/// Appends the line and the column at which `serde_json` finds that bytes are no JSON.
-pub fn push_position(alloc: Global, page: &mut Page, bytes: &[u8]) -> Result<(), AllocError>
+fn push_position(alloc: Global, page: &mut Page, bytes: &[u8]) -> Result<(), AllocError>
     ensures { OnOk result
         ((line column : ℕ) × (page.new ≡ page.old ++ position_text line column)) }
 {

@@ -1,7 +1,7 @@
 -- A run that is explained, by what its reader and its writer show.
 use Rattle.std.specs.Prelude.{◌≡◌, ◌⊎◌, ℕ, true, List, [], ◌∷◌, Result, Ok, Err, codes}
 use Rattle.tr_scenario.specs.declared.faults.ScenarioFault.{ScenarioFault}
-use Rattle.tr_scenario.specs.declared.faults.ScenarioFault.TheVariants.{NotJson, TooLarge}
+use Rattle.tr_scenario.specs.declared.faults.ScenarioFault.TheVariants.{TooLarge}
 use Rattle.tr_scenario.specs.declared.scenarios.Scenario.{Scenario}
 use Rattle.tr_scenario.specs.Faults.{scenario_fault_name}
 use Rattle.tr_scenario.specs.Printing.{Prints}
@@ -10,18 +10,12 @@ use Rattle.tr_scenario.specs.Scenarios.{scenario_of}
 use Rattle.tr_scenario.specs.Serial.{Devices, IsHalted, IsUnread, IsWhole}
 use Rattle.tr_scenario.specs.Sources.{Came, IsSound}
 use Rattle.tr_mistakes.specs.Scenarios.{scenario_mistake}
-use Rattle.tr_mistakes.specs.Texts.{mistake_in, position_text}
+use Rattle.tr_mistakes.specs.Texts.{IsTold}
 use Rattle.tr_reasons.specs.Explained.{explained}
-
--- what is told behind the fault's name: some line and column, as serde_json counts them, of what is no JSON; else the first
--- mistake
-abbrev pub IsTold : List ℕ → ScenarioFault → List ℕ → Type 0
-IsTold bytes NotJson told = (line : ℕ) × (column : ℕ) × (told ≡ position_text line column)
-IsTold bytes _ told = told ≡ mistake_in scenario_mistake 1048576 bytes
 
 -- the line of a fault of these bytes
 abbrev pub IsFaultLine : List ℕ → ScenarioFault → List ℕ → Type 0
-IsFaultLine bytes f text = (told : List ℕ) × IsTold bytes f told × (text ≡ texts (scenario_fault_name f ∷ told ∷ codes "\n" ∷ []))
+IsFaultLine bytes f text = (told : List ℕ) × IsTold scenario_mistake 1048576 bytes f told × (text ≡ texts (scenario_fault_name f ∷ told ∷ codes "\n" ∷ []))
 
 -- the line of a fault was written, and it is told; or a front of the line, and then the run halted
 abbrev pub TellsFault : {K : Type 0} → (K → List ℕ) → (K → ℕ) → K → K → List ℕ → ScenarioFault → ScenarioFault → Type 0

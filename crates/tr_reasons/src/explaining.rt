@@ -1,11 +1,11 @@
-ghost use Rattle.std.specs.Prelude.{◌≡◌, ◌↔◌, ℕ, List, ◌<◌, ◌+◌, ◌-◌, ◌^◌, ◌++◌, IfOk, IsTrue, OnOk};
+ghost use Rattle.std.specs.Prelude.{◌≡◌, ◌↔◌, ◌<◌, ◌+◌, ◌-◌, ◌^◌, IfOk, IsTrue};
 ghost use Rattle.tr_scenario.specs.declared.faults.ScenarioFault.TheVariants.{NoMemory};
-ghost use Rattle.tr_reasons.specs.Explains.{Explains, IsFaultLine, IsTold};
+ghost use Rattle.tr_reasons.specs.Explains.{Explains, IsFaultLine};
 ghost use Rattle.tr_reasons.specs.Private.{Refuses};
 
 use crate::telling::Explained;
 use std::alloc::{AllocError, Global};
-use tr_mistakes::{push_mistake, push_position};
+use tr_mistakes::push_told;
 use tr_scenario::{Page, Scenario, ScenarioFault, Source, print_kept, read, read_all, run};
 use tr_status::Sink;
 
@@ -63,25 +63,9 @@ fn fault_line(alloc: Global, bytes: &[u8], fault: ScenarioFault) -> Result<Page,
 {
     let mut line = Page::new(alloc);
     line.push(fault.name().as_bytes())?;
-    push_told(alloc, &mut line, bytes, fault)?;
+    push_told::<Scenario>(alloc, &mut line, 1048576, bytes, fault)?;
     line.push(b"\n")?;
     Ok(line)
-}
-
-/// Appends what is told of refused bytes behind the name of their fault.
-fn push_told(
-    alloc: Global,
-    line: &mut Page,
-    bytes: &[u8],
-    fault: ScenarioFault,
-) -> Result<(), AllocError>
-    ensures { OnOk result
-        ((told : List ℕ) × IsTold bytes.now fault told × (line.new ≡ line.old ++ told)) }
-{
-    match fault {
-        ScenarioFault::NotJson => push_position(alloc, line, bytes),
-        _ => push_mistake::<Scenario>(alloc, line, 1048576, bytes),
-    }
 }
 
 fn is_want_of_memory(fault: ScenarioFault) -> bool

@@ -110,8 +110,9 @@ const LIVE: &str =
     "Holds a dialogue with a kernel: answers each line on standard input before it reads the next.\n\n\
 A line is one JSON object of at most 65,536 bytes. The first is a scenario of version 1 without\n\
 `steps`, and opens a kernel; each after it is a step, whose calls are made and answered as `serial`\n\
-prints them, or asks for a text by `show`. A line that is refused is answered by `refused` and its\n\
-fault, and changes nothing. An empty line stands behind each answer.";
+prints them, or asks for a text by `show`. A line that is refused is answered by `refused`, its\n\
+fault, and the place of the first mistake and what is wanted there, and changes nothing. An empty\n\
+line stands behind each answer.";
 
 const LIVE_END: &str = "Lines that ask for a text:\n  \
 {\"show\":\"status\",\"tid\":10}   {\"show\":\"table\"}   {\"show\":\"totals\"}\n\n\

@@ -58,7 +58,7 @@ fn refused_lines_change_nothing(rt: HostRuntime) -> Result<(), Fail> {
             "{\"show\":\"totals\",\"tid\":10}\n",
             KILL,
         ],
-        "refused BadField: version: is missing\n\nstarted\n\nrefused BadField: actor: is missing\n\nrefused NotJson\n\nrefused BadField: sig: a whole number from 0 to 255 is wanted\n\nrefused BadField: show: `status`, `totals` or `table` is wanted\n\nrefused ESRCH 3\n\nrefused BadField: the key `tid` isn't known here\n\n#1 900 kill sent 1 flushed\n\n",
+        "refused BadField: version: is missing\n\nstarted\n\nrefused BadField: actor: is missing\n\nrefused NotJson: line 1, column 0\n\nrefused BadField: sig: a whole number from 0 to 255 is wanted\n\nrefused BadField: show: `status`, `totals` or `table` is wanted\n\nrefused ESRCH 3\n\nrefused BadField: the key `tid` isn't known here\n\n#1 900 kill sent 1 flushed\n\n",
     );
     Ok(())
 }
@@ -124,7 +124,7 @@ fn long_line_is_too_large(rt: HostRuntime) -> Result<(), Fail> {
     answered(
         &rt,
         &[line.as_str(), longer.as_str(), START],
-        "refused NotJson\n\nrefused TooLarge: more than 65536 bytes\n\nstarted\n\n",
+        "refused NotJson: line 1, column 65536\n\nrefused TooLarge: more than 65536 bytes\n\nstarted\n\n",
     );
     Ok(())
 }
