@@ -1,4 +1,4 @@
-ghost use Rattle.std.specs.Prelude.{◌≡◌, ℕ, ◌<◌, ◌≤◌, ◌==◌, [], filter, MatchOption, OnErr, OnOk, if◌then◌else◌, length, not};
+ghost use Rattle.std.specs.Prelude.{◌≡◌, ℕ, ◌<◌, ◌≤◌, ◌==◌, [], filter, MatchOption, OnErr, OnOk, if◌then◌else◌, length, not, vec_capacity, vec_len};
 ghost use Rattle.tr_table.specs.Rosters.{Counts, IsSmall, no_one, rewritten, roster_in, roster_of, unless_empty, with_last, without};
 ghost use Rattle.tr_tracee.specs.Threads.{in_group};
 
@@ -97,6 +97,18 @@ impl Roster {
         self.dead = recounted(self.dead, before.life.is_dead(), after.life.is_dead());
         self.traced = recounted(self.traced, before.is_traced(), after.is_traced());
         self.marked = recounted(self.marked, before.stop_mark, after.stop_mark);
+    }
+}
+
+/// Makes a place for one more roster; where there is none, for no more, since a roster is large and many tables have one group.
+fn make_place(list: &mut Vec<Roster>) -> Result<(), AllocError>
+    ensures items { list.new.items ≡ list.old.items }
+    ensures room { OnOk result (vec_len list.new < vec_capacity list.new) }
+{
+    if list.is_empty() {
+        list.reserve_exact(1)
+    } else {
+        list.reserve(1)
     }
 }
 
@@ -223,7 +235,7 @@ impl Rosters {
             None => {
                 let mut roster = Roster::new();
                 roster.push(thread);
-                self.list.reserve(1)?;
+                make_place(&mut self.list)?;
                 self.index.push(thread.group)?;
                 self.list.push_reserved(roster);
             }

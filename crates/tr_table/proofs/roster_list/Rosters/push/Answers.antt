@@ -33,7 +33,7 @@ returns-in_ok-push-in-None-clause-ok c = λ h.
     let rs : List RosterView = c.self.inside.list.items in
     let new : RosterView = c.push-in-None.new.self in
     let keys : c.push-in-None-2.new.self ≡ ids ++ t.group ∷ [] = c.in_ok-push-in-None.ensures.ok in
-    let items : c.push_reserved.new.self.items ≡ rs ++ new ∷ [] = c.push_reserved.ensures.items ∙ ap (λ (xs : List RosterView). xs ++ new ∷ []) c.in_ok-reserve-in-None.ensures.items in
+    let items : c.push_reserved.new.self.items ≡ rs ++ new ∷ [] = c.push_reserved.ensures.items ∙ ap (λ (xs : List RosterView). xs ++ new ∷ []) c.make_place.ensures.items in
     let none : no_one ≡ roster_in v t.group = sym (is_absent t.group c.self.inside.index c.self.inside.list.items c.args.self.now c.place.result c.self.invariant c.self.view_is c.place.ensures.at c.in-None.is) in
     (λ j. roster_in (zip (keys j) (items j)) h)
     ∙ (is_pushed t.group c.self.inside.index c.self.inside.list.items c.args.self.now c.place.result c.self.invariant c.self.view_is c.place.ensures.at h new c.in-None.is
