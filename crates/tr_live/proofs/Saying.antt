@@ -1,6 +1,6 @@
 -- What may be said and is heard of some bytes, one after another.
-use Rattle.std.proofs.Common.{◌≡◌, ◌==◌, ◌+◌, ◌<◌, ◌≤◌, ℕ, List, [], ◌∷◌, ◌++◌, ◌∙◌, Bool, true, false, ap, sym, refl, Option, Some, None, Result, Ok, Err, append_assoc, length, get_or, drop, drop-cons, add-one, codes}
-use Rattle.std.proofs.lemmas.List.{drop_all}
+use Rattle.std.proofs.Common.{◌≡◌, ◌==◌, ◌+◌, ◌<◌, ◌≤◌, ℕ, List, [], ◌∷◌, ◌++◌, ◌∙◌, Bool, true, false, ap, refl, Option, Some, None, Result, Ok, Err, append_assoc, length, get_or, drop, codes}
+use Rattle.std.proofs.lemmas.List.{at_drop_more, drop_all, drop_more}
 use Rattle.serde_json.specs.Data.{Data}
 use Rattle.tr_scenario.specs.declared.faults.ScenarioFault.{ScenarioFault}
 use Rattle.tr_scenario.specs.declared.faults.ScenarioFault.TheVariants.{NotJson}
@@ -41,15 +41,12 @@ said_of d (b ∷ bs) =
 
 -- of bytes from a place on
 
-byte_at : (bytes : List ℕ) (i : ℕ) → i < length bytes → drop i bytes ≡ get_or bytes i 0 ∷ drop (i + 1) bytes
-byte_at bytes i h = drop-cons bytes i 0 h ∙ ap (λ k. get_or bytes i 0 ∷ drop k bytes) (sym (add-one i))
-
 pub heard_at : (d : Dialogue) (bytes : List ℕ) (i : ℕ) → i < length bytes → heard d (drop i bytes) ≡ heard (heard_byte d (get_or bytes i 0)) (drop (i + 1) bytes)
-heard_at d bytes i h = ap (heard d) (byte_at bytes i h)
+heard_at d bytes i h = at_drop_more (heard d) bytes i 0 h
 
 pub said_at : (d : Dialogue) (bytes : List ℕ) (i : ℕ) (first rest : List ℕ) → i < length bytes →
     IsSaidTo d (get_or bytes i 0) first → IsSaid (heard_byte d (get_or bytes i 0)) (drop (i + 1) bytes) rest → IsSaid d (drop i bytes) (first ++ rest)
-said_at d bytes i first rest h a r = rw (byte_at bytes i h) (first, rest, a, r, refl)
+said_at d bytes i first rest h a r = rw (drop_more bytes i 0 h) (first, rest, a, r, refl)
 
 pub said_none : (d : Dialogue) (bytes : List ℕ) (i : ℕ) → length bytes ≤ i → IsSaid d (drop i bytes) []
 said_none d bytes i h = rw (drop_all i bytes h) refl

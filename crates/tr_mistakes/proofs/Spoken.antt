@@ -1,7 +1,7 @@
 -- What is told, from its parts.
-use Rattle.std.proofs.Common.{◌≡◌, ◌∙◌, ◌+◌, ◌<◌, ◌≤◌, ◌==◌, ◌||◌, ℕ, suc, List, [], ◌∷◌, ◌++◌, Bool, true, false, not, Option, Some, None, Result, Ok, Err, ◌⊎◌, inl, inr, IfOk, OnOk, ap, append_assoc, append-nil, drop, drop-cons, add-one, get_or, if◌then◌else◌, length, map, refl, subst, sym, take, Bor}
+use Rattle.std.proofs.Common.{◌≡◌, ◌∙◌, ◌+◌, ◌<◌, ◌≤◌, ◌==◌, ◌||◌, ℕ, List, [], ◌∷◌, ◌++◌, Bool, true, false, not, Option, Some, None, Result, Ok, Err, ◌⊎◌, inl, inr, IfOk, OnOk, ap, append_assoc, append-nil, drop, get_or, if◌then◌else◌, length, map, refl, subst, sym, take, Bor}
 use Rattle.std.proofs.lemmas.List.Folds.{list_any-append}
-use Rattle.std.proofs.lemmas.List.{drop_all, take_more}
+use Rattle.std.proofs.lemmas.List.{at_drop_more, drop_all, drop_more, take_more}
 use Rattle.std.specs.Prelude.{String, find, is_err, string_bytes}
 use Rattle.std.specs.declared.alloc.AllocError.{AllocError}
 use Rattle.std.specs.declared.alloc.Global.{Global}
@@ -103,7 +103,7 @@ no_key_told old names fields d ms found obj =
 -- Lists
 
 left : {A : Type 0} (xs : List A) (i : ℕ) (x : A) → i < length xs → get_or xs i x ≡ x → drop i xs ≡ x ∷ drop (i + 1) xs
-left xs i x h e = drop-cons xs i x h ∙ ap (λ y. y ∷ drop (suc i) xs) e ∙ ap (λ k. x ∷ drop k xs) (sym (add-one i))
+left xs i x h e = drop_more xs i x h ∙ ap (λ y. y ∷ drop (i + 1) xs) e
 
 pub member_left : {A : Type 0} (read : Data → Result A ScenarioFault) (mistake : Data → List ℕ) (vs : List Value) (i : ℕ) (v : Value) → i < length vs → get_or vs i v ≡ v →
     refused_member read mistake i (items_view (drop i vs)) ≡ (if is_err (read (view v)) then index_part i ++ mistake (view v) else refused_member read mistake (i + 1) (items_view (drop (i + 1) vs)))
@@ -113,12 +113,9 @@ pub bad_left : {A : Type 0} (good : A → Bool) (mistake : A → List ℕ) (xs :
     first_bad good mistake i (drop i xs) ≡ (if good x then first_bad good mistake (i + 1) (drop (i + 1) xs) else index_part i ++ mistake x)
 bad_left good mistake xs i x h e = ap (first_bad good mistake i) (left xs i x h e)
 
-drops : (xs : List ℕ) (j : ℕ) → j < length xs → drop j xs ≡ get_or xs j 0 ∷ drop (j + 1) xs
-drops xs j h = drop-cons xs j 0 h ∙ ap (λ k. get_or xs j 0 ∷ drop k xs) (sym (add-one j))
-
 pub again_left : (ns : List ℕ) (i : ℕ) → i < length ns → again (take i ns) (drop i ns) ≡ (if list_any (λ m. m == get_or ns i 0) (take i ns) then Some (get_or ns i 0) else again (take (i + 1) ns) (drop (i + 1) ns))
 again_left ns i h =
-    ap (again (take i ns)) (drops ns i h)
+    at_drop_more (again (take i ns)) ns i 0 h
     ∙ ap (λ t. if list_any (λ m. m == get_or ns i 0) (take i ns) then Some (get_or ns i 0) else again t (drop (i + 1) ns)) (sym (take_more ns i 0 h))
 
 -- after the last of them
