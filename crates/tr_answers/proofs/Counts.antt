@@ -1,5 +1,6 @@
 -- How many answers are known.
-use Rattle.std.proofs.Common.{◌≡◌, ◌≤◌, ◌<◌, ◌+◌, ◌∙◌, ℕ, zero, suc, List, [], ◌∷◌, ◌++◌, ap, sym, refl, Bool, true, false, filter, if◌then◌else◌, is_some, length, length-append, map, replicate, get_or, drop, drop-cons, add-one, arith}
+use Rattle.std.proofs.Common.{◌≡◌, ◌≤◌, ◌<◌, ◌+◌, ◌∙◌, ℕ, zero, suc, List, [], ◌∷◌, ◌++◌, ap, sym, refl, Bool, true, false, filter, if◌then◌else◌, is_some, length, length-append, map, replicate, get_or, drop, arith}
+use Rattle.std.proofs.lemmas.List.{drop_more}
 use Rattle.std.proofs.lemmas.List.Elements.{filter-append}
 use Rattle.std.proofs.lemmas.List.Sums.{sum_by-cons}
 use Rattle.tr_scenario.specs.declared.steps.Step.{Step}
@@ -42,4 +43,4 @@ known_few (a ∷ steps) =
 -- the answers that are left, as a loop comes to a step that has one
 pub known_next : (steps : List Answered) (i : ℕ) (a : Answered) → a ≡ get_or steps i a → i < length steps → known_by (drop i steps) ≡ (if is_some a.answer then a.step.times else 0) + known_by (drop (i + 1) steps)
 known_next steps i a at h =
-    ap known_by (drop-cons steps i a h ∙ (ap (λ x. x ∷ drop (suc i) steps) (sym at) ∙ ap (λ k. a ∷ drop k steps) (sym (add-one i))))
+    ap known_by (drop_more steps i a h ∙ ap (λ x. x ∷ drop (i + 1) steps) (sym at))

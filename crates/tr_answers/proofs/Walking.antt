@@ -1,5 +1,6 @@
 -- The calls of a comparison, one after the other.
-use Rattle.std.proofs.Common.{◌≡◌, ◌≤◌, ◌<◌, ◌+◌, ◌-◌, ◌∙◌, ℕ, suc, List, [], ◌∷◌, ◌++◌, ap, sym, refl, inl, inr, append-nil, append_assoc, length, length-append, get_or, drop, drop-cons, add-one, replicate, subst, Bool, true, false, Ok, Err, arith}
+use Rattle.std.proofs.Common.{◌≡◌, ◌≤◌, ◌<◌, ◌+◌, ◌∙◌, ℕ, List, [], ◌∷◌, ◌++◌, ap, sym, refl, inl, inr, append-nil, append_assoc, length, length-append, get_or, drop, add-one, replicate, subst, Bool, true, false, Ok, Err, arith}
+use Rattle.std.proofs.lemmas.List.{drop_more}
 use Rattle.tr_kernel.specs.States.{State}
 use Rattle.tr_status.specs.Writing.{IsFront}
 use Rattle.tr_scenario.specs.declared.faults.ScenarioFault.{ScenarioFault}
@@ -185,5 +186,5 @@ tried_halted taken failures old new page page_mid page_new s u q false e t h =
 pub calls_of_step : (steps : List Answered) (i : ℕ) (a : Answered) → a ≡ get_or steps i a → i < length steps →
     asked_from (i + 1) (drop i steps) ≡ replicate a.step.times (asked_by (i + 1) a) ++ asked_from (i + 1 + 1) (drop (i + 1) steps)
 calls_of_step steps i a at h =
-    ap (asked_from (i + 1)) (drop-cons steps i a h ∙ (ap (λ x. x ∷ drop (suc i) steps) (sym at) ∙ ap (λ k. a ∷ drop k steps) (sym (add-one i))))
+    ap (asked_from (i + 1)) (drop_more steps i a h ∙ ap (λ x. x ∷ drop (i + 1) steps) (sym at))
     ∙ ap (λ n. replicate a.step.times (asked_by (i + 1) a) ++ asked_from n (drop (i + 1) steps)) (sym (add-one (i + 1)))
