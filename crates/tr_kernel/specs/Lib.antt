@@ -5,6 +5,7 @@ pub mod Foreseen
 pub mod Heard
 pub mod Kept
 pub mod Laws
+pub mod Logs
 pub mod Notes
 pub mod Positions
 pub mod Private

@@ -63,6 +63,8 @@ pub(crate) fn write_entry(
     requires counted { length fates.old.fates ≡ step.old.work.table.accepted }
     requires bounded { AcceptsFew step.old.work.table
         (after step.old.work.table (entry_with actor event.now choice)).work.table }
+    ensures work { OnOk result (step.new.work
+        ≡ work_of step.old.work.table (entry_with actor event.now choice)) }
     ensures table { OnOk result (step.new.work.table
         ≡ (after step.old.work.table (entry_with actor event.now choice)).work.table) }
     ensures reply { IfOk result

@@ -45,11 +45,11 @@ pub enum StartFault {
 /// signal.
 pub struct Kernel {
     start: Start,
-    step: Step,
-    journal: Journal,
-    fates: Fates,
-    notes: Notes,
-    alloc: Global,
+    pub(crate) step: Step,
+    pub(crate) journal: Journal,
+    pub(crate) fates: Fates,
+    pub(crate) notes: Notes,
+    pub(crate) alloc: Global,
 }
 
 impl Drop for Kernel {
