@@ -1,15 +1,37 @@
 //! What a call would be answered, by the table before its step.
 
-ghost use Rattle.std.specs.Prelude.{◌≡◌, ◌+◌, ◌<◌, ◌≤◌, ◌^◌};
+ghost use Rattle.std.specs.Prelude.{◌≡◌, ◌+◌, ◌<◌, ◌≤◌, ◌^◌, None};
 ghost use Rattle.tr_model.specs.Compare.{Permits};
 ghost use Rattle.tr_model.specs.Foreseen.{fate_of_send, reply_before, sent_before};
 ghost use Rattle.tr_model.specs.declared.rows.Target.TheVariants as target;
 
 use crate::hearing::reply_without_send;
-use tr_model::{Choice, Event, Fate, Reply, Target};
+use tr_model::{Choice, Event, Fate, Refusal, Reply, Target};
 use tr_sigset::Signal;
 use tr_steps::Step;
 use tr_table::Table;
+
+/// What a call would come to, if memory is given.
+#[derive(Clone, Copy, Debug, PartialEq, Eq)]
+pub struct Prospect {
+    pub answer: Result<Reply, Refusal>,
+    /// This product's choice, where the answer is that of an entry.
+    pub choice: Option<Choice>,
+}
+
+impl Prospect {
+    /// An answer without an entry.
+    #[inline(always)]
+    pub(crate) fn without_entry(answer: Result<Reply, Refusal>) -> Prospect
+        ensures answer { result.answer ≡ answer }
+        ensures choice { result.choice ≡ None }
+    {
+        Prospect {
+            answer,
+            choice: None,
+        }
+    }
+}
 
 /// The reply of a send whose signal has this fate.
 fn sent(table: &Table, fate: Fate) -> Reply

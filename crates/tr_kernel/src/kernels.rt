@@ -10,7 +10,7 @@ ghost use Rattle.tr_model.specs.Preferred.{check};
 ghost use Rattle.tr_table.specs.Starts.{is_good, table_of};
 ghost use Rattle.tr_kernel.specs.declared.answers.Answer.TheVariants.{Refused};
 ghost use Rattle.tr_kernel.specs.Answers.{IfEntered, IfRead, IfRefused, IsReceipt};
-ghost use Rattle.tr_kernel.specs.Foreseen.{foreseen, foreseen_entry};
+ghost use Rattle.tr_kernel.specs.Foreseen.{choice_ahead, choice_with_room, foreseen, foreseen_entry};
 ghost use Rattle.tr_kernel.specs.Heard.{IsHeard, call_of};
 ghost use Rattle.tr_kernel.specs.Laws.{KillsAt, RaisedBefore, WaitsAt, consumed_at};
 ghost use Rattle.tr_kernel.specs.Notes.{notes_of};
@@ -21,7 +21,7 @@ use crate::answers::{Answer, Receipt};
 use crate::entries::{report_of, write_entry};
 use crate::events::check;
 use crate::fates::Fates;
-use crate::foreseen::reply_before;
+use crate::foreseen::{Prospect, reply_before};
 use crate::hearing::{choice_of, is_admitted, is_refusal, is_reply};
 use crate::journal::Journal;
 use crate::notes::{EntryFact, Notes, Stopped, fact_in, is_killed};
@@ -297,21 +297,39 @@ impl Kernel {
         ensures foreseen { result ≡ foreseen self.now (call_of actor event.now) }
         ensures history { IsHistory self.now }
     {
-        match check(self.step.table(), actor, event)? {
-            Checked::Quiet(reply) => Ok(reply),
-            Checked::Due(choice) => self.foresee_entry(actor, event, choice),
+        self.prospect(actor, event).answer
+    }
+
+    /// Gives what `foresee` gives, and of an answer with an entry the choice with which `step_as` makes it.
+    pub fn prospect(&self, actor: u32, event: &Event) -> Prospect
+        ensures foreseen { result.answer ≡ foreseen self.now (call_of actor event.now) }
+        ensures choice { result.choice ≡ choice_ahead self.now (call_of actor event.now) }
+        ensures history { IsHistory self.now }
+    {
+        let found = match check(self.step.table(), actor, event) {
+            Ok(checked) => checked,
+            Err(why) => return Prospect::without_entry(Err(why)),
+        };
+        match found {
+            Checked::Quiet(reply) => Prospect::without_entry(Ok(reply)),
+            Checked::Due(choice) => self.prospect_of_entry(actor, event, choice),
         }
     }
 
-    /// Gives the reply of the entry that is due, or `JournalFull`.
-    fn foresee_entry(&self, actor: u32, event: &Event, choice: Choice) -> Result<Reply, Refusal>
+    /// Gives the reply of the entry that is due, with its choice, or `JournalFull`.
+    fn prospect_of_entry(&self, actor: u32, event: &Event, choice: Choice) -> Prospect
         requires due { Permits self.now.table actor event.now choice }
-        ensures { result ≡ foreseen_entry self.now (entry_for (call_of actor event.now) choice) }
+        ensures foreseen { result.answer
+            ≡ foreseen_entry self.now (entry_for (call_of actor event.now) choice) }
+        ensures choice { result.choice ≡ choice_with_room self.now choice }
     {
         if self.journal.is_full(self.step.table().entries()) {
-            return Err(Refusal::JournalFull);
+            return Prospect::without_entry(Err(Refusal::JournalFull));
         }
-        Ok(reply_before(&self.step, actor, event, choice))
+        Prospect {
+            answer: Ok(reply_before(&self.step, actor, event, choice)),
+            choice: Some(choice),
+        }
     }
 
     /// Hears what another system answered to a call of an actor, and says whether the model lets the call have that

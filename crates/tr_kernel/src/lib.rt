@@ -20,6 +20,7 @@ mod restarts;
 
 pub use acting::{act, act_with};
 pub use answers::{Answer, Receipt};
+pub use foreseen::Prospect;
 pub use hearing::choice_of;
 pub use kernels::{Kernel, StartFault};
 pub use logging::StepLog;

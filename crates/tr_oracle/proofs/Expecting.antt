@@ -1,15 +1,16 @@
 -- This product's own answer may be given, and no other where the model leaves no choice.
 use Rattle.std.proofs.Common.{◌≡◌, ◌+◌, ◌-◌, ◌^◌, ◌&&◌, ◌∙◌, ◌≤◌, ◌<◌, ℕ, zero, suc, List, [], ◌∷◌, IsTrue, Bool, true, false, Option, Some, None, Result, Ok, Err, add-one, ap, arith, drop, drop-cons, get_or, inl, inr, leb-false, leb-true, length, nat_le, refl, slice_index_or, subst, sym, true≢false}
-use Rattle.std.specs.Result.{IsOk, is_err, is_ok}
+use Rattle.std.specs.Result.{IsOk, is_ok}
 use Rattle.std.proofs.lemmas.Bool.{le-leb, lt-leb}
-use Rattle.std.specs.Prelude.{◌⊎◌, if◌then◌else◌}
+use Rattle.std.proofs.lemmas.Option.{same_Some}
+use Rattle.std.specs.Prelude.{◌⊎◌, IfErr, IfOk, OnErr, if◌then◌else◌}
 use Rattle.tr_tracee.specs.declared.thread.Thread.{Thread}
 use Rattle.tr_model.specs.declared.checked.Checked.{Checked}
 use Rattle.tr_model.specs.declared.checked.Checked.TheVariants.{Quiet, Due}
 use Rattle.tr_model.specs.declared.events.Event.{Event}
 use Rattle.tr_model.specs.declared.events.Event.TheVariants as event
 use Rattle.tr_model.specs.declared.replies.Refusal.{Refusal}
-use Rattle.tr_model.specs.declared.replies.Refusal.TheVariants.{JournalFull}
+use Rattle.tr_model.specs.declared.replies.Refusal.TheVariants.{JournalFull, NoMemory}
 use Rattle.tr_model.specs.declared.replies.Reply.{Reply}
 use Rattle.tr_model.specs.declared.replies.Reply.TheVariants.{Cloned}
 use Rattle.tr_model.specs.Causes.{cause_of, quiet_of}
@@ -21,10 +22,10 @@ use Rattle.tr_model.specs.Runs.{Call}
 use Rattle.tr_model.specs.Steps.{Admits, Step, after, is_new, number}
 use Rattle.tr_model.specs.Tables.{Table, thread_of}
 use Rattle.tr_table.specs.Starts.{table_of}
-use Rattle.tr_kernel.specs.Foreseen.{foreseen, foreseen_by}
+use Rattle.tr_kernel.specs.Foreseen.{choice_ahead, choice_found, foreseen, foreseen_by, foreseen_entry}
 use Rattle.tr_kernel.specs.Heard.{HasAnswered, call_of}
-use Rattle.tr_kernel.specs.States.{IsDue, IsEntered, IsHistory, IsQuiet, State}
-use Rattle.tr_kernel.proofs.Checks.{dues, refusals}
+use Rattle.tr_kernel.specs.States.{IsDue, IsEntered, IsHistory, IsMade, IsQuiet, IsRefusal, State}
+use Rattle.tr_kernel.proofs.Checks.{dues, quiets, refusals}
 use Rattle.tr_oracle.specs.Expected.{FitsEachClone, HasGiven, IsAnswered, IsNamed, MayAnswer}
 use Rattle.tr_oracle.specs.Offers.{has_open_choice, offered}
 use Rattle.tr_model.proofs.Ordered.{waiting_is_sorted}
@@ -62,17 +63,17 @@ foreseen_quiet s m a e r q = rw (q.no_cause, q.quiet) refl
 foreseen_entered : (s m : State) (a : ℕ) (e : Event) (r : Reply) → IsEntered s a e r m → nat_le s.table.entries (length s.journal) ≡ false → foreseen s (call_of a e) ≡ Ok r
 foreseen_entered s m a e r n f = rw (n.no_cause, n.step.not_quiet, f) (ap (λ x. Ok x) (sym n.step.reply))
 
+not_both : (o : Option Reply) (x : Reply) → o ≡ None → o ≡ Some x → ⊥
+not_both o x f g = cc
+
 -- a step of this product's answers as foreseen
 pub step_done : (s m : State) (a : ℕ) (e : Event) (r : Reply) → IsQuiet s a e r m ⊎ IsEntered s a e r m → (IsDue s a e → s.table.entries ≤ length s.journal → ⊥)
     → (foreseen s (call_of a e) ≡ Ok r) × MayAnswer s (call_of a e) (Ok r) × HasGiven s (call_of a e) (Ok r) m
 step_done s m a e r (inl q) room = (
   foreseen_quiet s m a e r q,
-  inr ((s.table, inl (q.no_cause, q.quiet, refl)), λ d. absurd (no_quiet (quiet_of s.table a e) r d.not_quiet q.quiet)),
+  inr ((s.table, inl (q.no_cause, q.quiet, refl)), λ d. absurd (not_both (quiet_of s.table a e) r d.not_quiet q.quiet)),
   inl q,
 )
-  where
-    no_quiet : (o : Option Reply) (x : Reply) → o ≡ None → o ≡ Some x → ⊥
-    no_quiet o x f g = cc
 step_done s m a e r (inr n) room =
     let due : IsDue s a e = record { no_cause = n.no_cause; not_quiet = n.step.not_quiet } in
     let less : length s.journal < s.table.entries = below (nat_le s.table.entries (length s.journal)) refl due in (
@@ -84,11 +85,6 @@ step_done s m a e r (inr n) room =
     below : (b : Bool) → nat_le s.table.entries (length s.journal) ≡ b → IsDue s a e → length s.journal < s.table.entries
     below true f d = absurd (room d (leb-true s.table.entries (length s.journal) f))
     below false f d = leb-false s.table.entries (length s.journal) f
-
--- an own answer that is an error may be given
-pub errs_may : (s : State) (c : Call) (x : Result Reply Refusal) → foreseen s c ≡ x → is_err x ≡ true → MayAnswer s c x
-errs_may s c (Err why) e h = refused_may s c why e
-errs_may s c (Ok r) e h = absurd (true≢false (sym h))
 
 -- a step that had an answer met no full journal
 pub unfull : (s : State) (a : ℕ) (e : Event) (x : Result Reply Refusal) (r : Reply) → x ≡ Ok r → (IsDue s a e → s.table.entries ≤ length s.journal → x ≡ Err JournalFull)
@@ -126,6 +122,64 @@ foreseen_due s c d f = rw (d.no_cause, d.not_quiet, f) refl
 -- a full journal refuses what is due
 foreseen_full : (s : State) (c : Call) → IsDue s c.actor c.event → nat_le s.table.entries (length s.journal) ≡ true → foreseen s c ≡ Err JournalFull
 foreseen_full s c d f = rw (d.no_cause, d.not_quiet, f) refl
+
+-- an own answer without an entry changes nothing
+pub idle : (s : State) (c : Call) → choice_ahead s c ≡ None → MayAnswer s c (foreseen s c) × HasGiven s c (foreseen s c) s
+idle s c h = by_check (check s.table c.actor c.event) refl h
+  where
+    at_limit : (x : Choice) (r : Reply) (b : Bool) → nat_le s.table.entries (length s.journal) ≡ b → IsDue s c.actor c.event → (if b then None else Some x) ≡ None
+        → MayAnswer s c (if b then Err JournalFull else Ok r) × HasGiven s c (if b then Err JournalFull else Ok r) s
+    at_limit x r true f d k = (refused_may s c JournalFull (foreseen_full s c d f), refl)
+    at_limit x r false f d k = absurd cc
+
+    by_check : (x : Result Checked Refusal) → check s.table c.actor c.event ≡ x → choice_found s x ≡ None → MayAnswer s c (foreseen_by s c x) × HasGiven s c (foreseen_by s c x) s
+    by_check (Err why) e k = (refused_may s c why (ap (λ y. foreseen_by s c y) e), refl)
+    by_check (Ok (Quiet r)) e k =
+        let q = quiets s.table c.actor c.event r e in
+        let done = step_done s s c.actor c.event r (inl (record { no_cause = q.0; quiet = q.1; same = refl })) (λ d l. not_both (quiet_of s.table c.actor c.event) r d.not_quiet q.1) in
+        (done.1, done.2)
+    by_check (Ok (Due x)) e k =
+        let d = dues s.table c.actor c.event x e in
+        at_limit x (after s.table (entry_for c x)).reply (nat_le s.table.entries (length s.journal)) refl (record { no_cause = d.no_cause; not_quiet = d.not_quiet }) k
+
+-- an entry is foreseen where it is due and has room
+pub ahead : (s : State) (c : Call) (x : Choice) → choice_ahead s c ≡ Some x → (check s.table c.actor c.event ≡ Ok (Due x)) × (nat_le s.table.entries (length s.journal) ≡ false)
+ahead s c x h = by_check (check s.table c.actor c.event) h
+  where
+    at_limit : (y : Choice) (b : Bool) → (if b then None else Some y) ≡ Some x → (y ≡ x) × (b ≡ false)
+    at_limit y true k = absurd cc
+    at_limit y false k = (same_Some y x k, refl)
+
+    by_check : (z : Result Checked Refusal) → choice_found s z ≡ Some x → (z ≡ Ok (Due x)) × (nat_le s.table.entries (length s.journal) ≡ false)
+    by_check (Err why) k = absurd cc
+    by_check (Ok (Quiet r)) k = absurd cc
+    by_check (Ok (Due y)) k = let p = at_limit y (nat_le s.table.entries (length s.journal)) k in (ap (λ z. Ok (Due z)) p.0, p.1)
+
+-- that entry answers as foreseen
+pub made : (s m : State) (c : Call) (x : Choice) (r : Reply) → choice_ahead s c ≡ Some x → IsMade s (entry_for c x) r m
+    → MayAnswer s c (foreseen s c) × HasGiven s c (foreseen s c) m
+made s m c x r h is =
+    let p = ahead s c x h in
+    let own : foreseen s c ≡ Ok r = ap (λ y. foreseen_by s c y) p.0 ∙ (ap (λ (b : Bool). if b then Err JournalFull else Ok (after s.table (entry_for c x)).reply) p.1 ∙ ap (λ y. Ok y) (sym is.step.reply)) in
+    let may : MayAnswer s c (Ok r) = inr ((m.table, inr (x, is.step)), λ d. leb-false s.table.entries (length s.journal) p.1) in
+    let given : HasGiven s c (Ok r) m = inr (x, is) in
+    (subst (λ y. MayAnswer s c y) (sym own) may, subst (λ y. HasGiven s c y m) (sym own) given)
+
+-- a refusal for a cause or for a full journal is foreseen
+refused_ahead : (s : State) (a : ℕ) (e : Event) (why : Refusal) → (why ≡ NoMemory → ⊥) → IsRefusal s a e why → foreseen s (call_of a e) ≡ Err why
+refused_ahead s a e JournalFull n h = foreseen_full s (call_of a e) h.0 (le-leb s.table.entries (length s.journal) h.1)
+refused_ahead s a e NoMemory n h = absurd (n refl)
+refused_ahead s a e _ n h = rw h refl
+
+-- a step that memory was given for has this product's own answer
+pub stepped_as : (s m : State) (a : ℕ) (e : Event) (x : Result Reply Refusal) → IfOk x (λ r. IsQuiet s a e r m ⊎ IsEntered s a e r m) → IfErr x (λ why. IsRefusal s a e why) → OnErr x (m ≡ s)
+    → (IsDue s a e → s.table.entries ≤ length s.journal → x ≡ Err JournalFull) → (x ≡ Err NoMemory → ⊥) → IsAnswered s m (call_of a e) (λ y. true) x
+stepped_as s m a e (Ok r) ok err same full n =
+    let done = step_done s m a e r ok (unfull s a e (Ok r) r refl full) in
+    record { fits = refl; may = done.1; own = λ t. sym done.0; given = done.2 }
+stepped_as s m a e (Err why) ok err same full n =
+    let own = refused_ahead s a e why (λ k. n (ap (λ w. Err w) k)) err in
+    record { fits = refl; may = refused_may s (call_of a e) why own; own = λ t. sym own; given = same }
 
 ok_no_err : (x : Result Reply Refusal) (why : Refusal) → IsOk x → x ≡ Err why → ⊥
 ok_no_err x why h e = true≢false (sym h ∙ ap is_ok e)

@@ -1,13 +1,14 @@
-ghost use Rattle.std.specs.Prelude.{◌≡◌, false, true, IfOk, OnErr, OnOk};
+ghost use Rattle.std.specs.Prelude.{◌≡◌, ◌↔◌, Err, false, true, IfOk, IsTrue, OnErr, OnOk};
 ghost use Rattle.std.specs.Result.{IsOk};
-ghost use Rattle.tr_kernel.specs.Foreseen.{foreseen};
+ghost use Rattle.tr_model.specs.declared.replies.Refusal.TheVariants.{NoMemory};
+ghost use Rattle.tr_kernel.specs.Foreseen.{choice_ahead, foreseen};
 ghost use Rattle.tr_kernel.specs.Heard.{call_of};
 ghost use Rattle.tr_kernel.specs.States.{IsHistory};
 ghost use Rattle.tr_oracle.specs.Expected.{Answers, HasGiven, IsAnswered, IsTried, MayAnswer};
 
 use crate::offers::offered;
 use std::alloc::{AllocError, Global};
-use tr_kernel::Kernel;
+use tr_kernel::{Kernel, Prospect};
 use tr_model::{Event, Refusal, Reply};
 
 /// What is known of an answer.
@@ -40,12 +41,12 @@ pub fn answer_as<X: Expectation>(
 ) -> Result<Option<Result<Reply, Refusal>>, AllocError>
     ensures { Answers kernel.old kernel.new (call_of actor event.now) (X.fits expected.now) result }
 {
-    let own = kernel.foresee(actor, event);
-    if expected.fits(&own)? {
+    let own = kernel.prospect(actor, event);
+    if expected.fits(&own.answer)? {
         make(kernel, actor, event, &own)?;
-        return Ok(Some(own));
+        return Ok(Some(own.answer));
     }
-    match own {
+    match own.answer {
         Ok(_) => answer_otherwise(alloc, kernel, actor, event, expected),
         Err(_) => Ok(None),
     }
@@ -61,9 +62,20 @@ pub fn answer(
         (λ x. IsAnswered kernel.old kernel.new (call_of actor event.now) (λ _. true) x) }
     ensures err { OnErr result (kernel.new ≡ kernel.old) }
 {
-    let own = kernel.foresee(actor, event);
-    make(kernel, actor, event, &own)?;
-    Ok(own)
+    let answer = kernel.step(actor, *event);
+    if lacks_memory(&answer) {
+        return Err(AllocError);
+    }
+    Ok(answer)
+}
+
+fn lacks_memory(answer: &Result<Reply, Refusal>) -> bool
+    ensures { IsTrue result ↔ (answer.now ≡ Err NoMemory) }
+{
+    match answer {
+        Ok(_) => false,
+        Err(why) => *why == Refusal::NoMemory,
+    }
 }
 
 /// Makes this product's own answer.
@@ -71,17 +83,20 @@ fn make(
     kernel: &mut Kernel,
     actor: u32,
     event: &Event,
-    own: &Result<Reply, Refusal>,
+    own: &Prospect,
 ) -> Result<(), AllocError>
-    requires { own.now ≡ foreseen kernel.old (call_of actor event.now) }
-    ensures may { OnOk result (MayAnswer kernel.old (call_of actor event.now) own.now) }
-    ensures given { OnOk result (HasGiven kernel.old (call_of actor event.now) own.now kernel.new) }
+    requires foreseen { own.now.answer ≡ foreseen kernel.old (call_of actor event.now) }
+    requires choice { own.now.choice ≡ choice_ahead kernel.old (call_of actor event.now) }
+    requires history { IsHistory kernel.old }
+    ensures may { OnOk result (MayAnswer kernel.old (call_of actor event.now) own.now.answer) }
+    ensures given { OnOk result
+        (HasGiven kernel.old (call_of actor event.now) own.now.answer kernel.new) }
     ensures unchanged { OnErr result (kernel.new ≡ kernel.old) }
 {
-    if own.is_err() {
+    let Some(choice) = own.choice else {
         return Ok(());
-    }
-    match kernel.step(actor, *event) {
+    };
+    match kernel.step_as(actor, event, choice) {
         Ok(_) => Ok(()),
         Err(_) => Err(AllocError),
     }

@@ -6,15 +6,15 @@ use Rattle.tr_kernel.specs.Foreseen.{foreseen_entry}
 use Rattle.tr_kernel.specs.Heard.{call_of}
 use Rattle.tr_kernel.specs.States.{State}
 use Rattle.tr_kernel.proofs.Answered.{accepted_few, reply_is}
-use Rattle.tr_kernel.proofs.kernels.Kernel.foresee_entry.Goals as goal
+use Rattle.tr_kernel.proofs.kernels.Kernel.prospect_of_entry.Goals as goal
 
 pub reply_before-requires-clause-few : goal.reply_before-requires-clause-few
 reply_before-requires-clause-few c =
     let few = leb-false c.entries.result (length c.self.inside.journal.entries) (sym c.is_full.ensures ∙ c.if-is_full.false) in
     omega (arith, accepted_few _ c.self.invariant.0, few, c.entries.type_inv)
 
-pub returns : goal.returns
-returns c =
+pub returns-clause-foreseen : goal.returns-clause-foreseen
+returns-clause-foreseen c =
     let a = c.args.actor in
     let e = c.args.event.now in
     let T = c.self.inside.step.work.table in
