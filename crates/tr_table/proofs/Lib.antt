@@ -15,6 +15,7 @@ pub mod Delivering
 pub mod Holding
 pub mod LeftLines
 pub mod Orders
+pub mod Owns
 pub mod Places
 pub mod RosterLists
 pub mod Rostering

@@ -1,13 +1,24 @@
 -- The queue of one target, among all that waits.
-use Rattle.std.specs.Prelude.{ℕ, ◌<◌, ◌==◌, ◌&&◌, Bool, List, [], ◌∷◌, ◌++◌, if◌then◌else◌}
+use Rattle.std.specs.Prelude.{ℕ, ◌+◌, ◌<◌, ◌==◌, ◌&&◌, Bool, List, [], ◌∷◌, ◌++◌, if◌then◌else◌}
 use Rattle.tr_sigset.specs.declared.sets.SigSet.{SigSet}
 use Rattle.tr_sigset.specs.Sets.{has}
 use Rattle.tr_pending.specs.declared.instance.Instance.{Instance}
 use Rattle.tr_pending.specs.Waiting.{merges}
 use Rattle.tr_model.specs.declared.rows.Target.{Target}
+use Rattle.tr_model.specs.declared.rows.Target.TheVariants as target
 use Rattle.tr_model.specs.declared.rows.Waiting.{Waiting}
 use Rattle.tr_model.specs.Tables.{same_target}
 use Rattle.tr_table.specs.Changes.{queue_in}
+
+-- one of a thread's own queue, none of a group's
+abbrev pub own_share : Target → ℕ
+own_share (target.Thread id) = 1
+own_share (target.Group g) = 0
+
+-- how many wait for threads
+abbrev pub count_own : List Waiting → ℕ
+count_own [] = 0
+count_own (w ∷ ws) = own_share w.target + count_own ws
 
 -- for the target, of the signal
 abbrev pub is_one : Target → ℕ → Waiting → Bool

@@ -7,7 +7,7 @@ use Rattle.tr_model.specs.Moves.{retargeted}
 use Rattle.tr_table.specs.declared.pending.Pending.{Pending}
 use Rattle.tr_table.specs.declared.slots.Slot.{Slot}
 use Rattle.tr_table.specs.Lines.{AreLines}
-use Rattle.tr_table.specs.Queues.{is_one}
+use Rattle.tr_table.specs.Queues.{count_own, is_one}
 
 -- what still waits
 abbrev pub standing : List Slot → List Waiting
@@ -49,6 +49,7 @@ pub record IsPending (p : Pending) : Type 0 where
   pub sorted : IsSorted (all_in p.slots.items)
   pub lines : AreLines p.lines p.queues (standing p.slots.items)
   pub counted : p.count ≡ length (standing p.slots.items)
+  pub counted_own : p.own ≡ count_own (standing p.slots.items)
   pub small : p.count + p.room < 2 ^ 64
   -- for as many more as `room` says there are places
   pub slot_places : vec_len p.slots + p.room ≤ vec_capacity p.slots

@@ -6,7 +6,7 @@ ghost use Rattle.tr_model.specs.Moves.{ending_of, instance_in, retargeted, witho
 ghost use Rattle.tr_pending.specs.Waiting.{IsMask, best_of, first_of, is_waiting};
 ghost use Rattle.tr_table.specs.Changes.{holds, is_flushed, is_picked, queue_in};
 ghost use Rattle.tr_table.specs.Lines.{IsQueue};
-ghost use Rattle.tr_table.specs.Queues.{AllBelow, without_one};
+ghost use Rattle.tr_table.specs.Queues.{AllBelow, own_share, without_one};
 ghost use Rattle.tr_table.specs.Slots.{IsPending, emptied, standing};
 ghost use Rattle.tr_table.specs.declared.slots.Slot.{Slot};
 
@@ -22,12 +22,24 @@ use tr_model::{Ending, Target, Waiting};
 use tr_pending::Instance;
 use tr_sigset::{SigSet, Signal};
 
+/// One of a thread's own queue, none of a group's.
+fn own_share(target: Target) -> usize
+    ensures { result ≡ own_share target }
+{
+    match target {
+        Target::Thread(_) => 1,
+        Target::Group(_) => 0,
+    }
+}
+
 /// All that waits, in slots that stand in order of acceptance, with an index of its lines and queues.
 pub(crate) struct Pending {
     pub(crate) slots: Vec<Slot>,
     pub(crate) lines: IndexMap<LineKey, Line>,
     pub(crate) queues: IndexMap<Target, Queue>,
     pub(crate) count: usize,
+    /// How many of these wait for threads, and not for groups.
+    pub(crate) own: usize,
     pub(crate) room: usize,
 }
 
@@ -38,6 +50,7 @@ impl Drop for Pending {
             lines: _,
             queues: _,
             count: _,
+            own: _,
             room: _,
         } = self;
     }
@@ -55,6 +68,7 @@ impl Pending {
             lines: IndexMap::new(alloc),
             queues: IndexMap::new(alloc),
             count: 0,
+            own: 0,
             room: 0,
         }
     }
@@ -67,11 +81,27 @@ impl Pending {
         self.count
     }
 
+    /// Whether something may wait for the target: for a thread, or for a group.
+    #[inline(always)]
+    fn may_wait(&self, target: Target) -> bool
+        requires { IsPending self.now }
+        ensures { result ≡ false → queue_in target (standing self.now.slots.items) ≡ [] }
+    {
+        match target {
+            Target::Thread(_) => self.own != 0,
+            Target::Group(_) => self.own != self.count,
+        }
+    }
+
     /// What is kept of the target's queue.
+    #[inline(always)]
     fn queue(&self, target: Target) -> Option<Queue>
         requires { IsPending self.now }
         ensures { IsQueue result (queue_in target (standing self.now.slots.items)) }
     {
+        if !self.may_wait(target) {
+            return None;
+        }
         self.queues.get(&target).copied()
     }
 
@@ -161,6 +191,7 @@ impl Pending {
             gone: false,
         });
         self.count += 1;
+        self.own += own_share(waiting.target);
         self.room -= 1;
     }
 
@@ -178,6 +209,7 @@ impl Pending {
         let slot = &self.slots[place];
         let stays = leave_line(&mut self.lines, &slot.waiting, &self.slots[place + 1..]);
         leave_queue(&mut self.queues, &slot.waiting, stays);
+        self.own -= own_share(slot.waiting.target);
         self.slots[place].gone = true;
         self.count -= 1;
     }

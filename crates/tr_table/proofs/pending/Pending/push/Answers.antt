@@ -4,9 +4,10 @@ use Rattle.tr_model.specs.declared.rows.Waiting.{Waiting}
 use Rattle.tr_model.specs.Journals.{IsSorted}
 use Rattle.tr_table.specs.declared.slots.Slot.{Slot}
 use Rattle.tr_table.specs.Lines.{AreLines}
-use Rattle.tr_table.specs.Queues.{AllBelow}
+use Rattle.tr_table.specs.Queues.{AllBelow, count_own}
 use Rattle.tr_table.specs.Slots.{all_in, standing}
 use Rattle.tr_table.proofs.Entries.{line_few, lines_more, queue_few}
+use Rattle.tr_table.proofs.Owns.{one_share, own_few, own_last}
 use Rattle.tr_table.proofs.Standing.{below_all, sorted_more, standing_last}
 use Rattle.tr_table.proofs.pending.Pending.push.Goals as goal
 
@@ -26,6 +27,13 @@ enter_queue-requires-clause-few c = λ x e.
 
 pub overflow_add-self : goal.overflow_add-self
 overflow_add-self c = omega (arith, c.requires.kept.small, c.requires.room)
+
+pub overflow_add-self-2 : goal.overflow_add-self-2
+overflow_add-self-2 c =
+    let p = c.args.self.now in
+    let k = c.requires.kept in
+    let w : Waiting = c.args.waiting.now in
+    omega (arith, own_few (standing p.slots.items), one_share w.target, k.counted, k.counted_own, k.small, c.requires.room)
 
 pub returns-clause-waiting : goal.returns-clause-waiting
 returns-clause-waiting c =
@@ -50,6 +58,7 @@ returns-clause-kept c =
       sorted = subst (λ xs. IsSorted (all_in xs)) (sym c.push_reserved.ensures.items) (sorted_more ss s trimmed below);
       lines = subst (AreLines c.enter_line.new.lines c.enter_queue.new.queues) (sym made) (lines_more p.lines c.enter_line.new.lines p.queues c.enter_queue.new.queues w (standing p.slots.items) k.lines c.enter_line.ensures.get c.enter_queue.ensures.own c.enter_queue.ensures.others);
       counted = omega (arith, n, k.counted);
+      counted_own = omega (arith, ap count_own made, own_last (standing p.slots.items) w, k.counted_own);
       small = omega (arith, k.small, c.requires.room);
       slot_places = omega (arith, k.slot_places, c.trim.ensures.len, c.trim.ensures.capacity, c.push_reserved.ensures.len, c.push_reserved.ensures.capacity, c.requires.room);
       line_places = record {

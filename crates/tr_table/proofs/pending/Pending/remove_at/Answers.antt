@@ -5,9 +5,10 @@ use Rattle.tr_model.specs.Journals.{IsSorted}
 use Rattle.tr_table.specs.declared.slots.Slot.{Slot}
 use Rattle.tr_model.specs.declared.rows.Target.{Target}
 use Rattle.tr_table.specs.Lines.{AreLines, is_key, line_at, line_of}
-use Rattle.tr_table.specs.Queues.{is_one}
+use Rattle.tr_table.specs.Queues.{count_own, is_one}
 use Rattle.tr_table.specs.Slots.{all_in, emptied, line_in, standing}
 use Rattle.tr_table.proofs.Entries.{has_line, has_queue, lines_less}
+use Rattle.tr_table.proofs.Owns.{own_between}
 use Rattle.tr_table.proofs.Standing.{all_at, emptied_at, same_default, standing_sorted, tail_is, waits_at}
 use Rattle.tr_table.proofs.pending.Pending.remove_at.Goals as goal
 
@@ -42,6 +43,17 @@ overflow_sub-self c =
     let p = c.args.self.now in
     let ss : List Slot = p.slots.items in
     let s : Slot = c.index-slot.result.now in
+    let w : Waiting = s.waiting in
+    let i = c.args.place in
+    let here : get_or ss i s ≡ s = sym c.index-slot.ensures in
+    let split : standing ss ≡ standing (take i ss) ++ w ∷ standing (drop (i + 1) ss) = waits_at s ss i (search rules) (c.requires.there s) ∙ ap (λ (t : Slot). standing (take i ss) ++ t.waiting ∷ standing (drop (i + 1) ss)) here in
+    omega (arith, ap count_own split, own_between (standing (take i ss)) (standing (drop (i + 1) ss)) w, c.requires.kept.counted_own)
+
+pub overflow_sub-self-2 : goal.overflow_sub-self-2
+overflow_sub-self-2 c =
+    let p = c.args.self.now in
+    let ss : List Slot = p.slots.items in
+    let s : Slot = c.index-slot.result.now in
     let i = c.args.place in
     let n = ap length (waits_at s ss i (search rules) (c.requires.there s)) ∙ length-append (standing (take i ss)) ((get_or ss i s).waiting ∷ standing (drop (i + 1) ss)) in
     let counted = c.requires.kept.counted in
@@ -73,6 +85,7 @@ returns-clause-kept c =
       sorted = subst IsSorted (sym (ap all_in new ∙ all_at s ss i within)) c.requires.kept.sorted;
       lines = subst (AreLines c.leave_line-stays.new.lines c.leave_queue.new.queues) (sym left) lines;
       counted = omega (arith, n, m, fewer, c.requires.kept.counted);
+      counted_own = omega (arith, ap count_own split, own_between (standing (take i ss)) (standing (drop (i + 1) ss)) w, ap count_own left, c.requires.kept.counted_own);
       small = omega (arith, n, c.requires.kept.counted, small);
       slot_places = c.requires.kept.slot_places;
       line_places = record {

@@ -4,7 +4,9 @@ use Rattle.tr_model.specs.Journals.{IsSorted}
 use Rattle.tr_model.specs.Moves.{retargeted}
 use Rattle.tr_table.specs.declared.slots.Slot.{Slot}
 use Rattle.tr_table.specs.Lines.{AreLines}
+use Rattle.tr_table.specs.Queues.{count_own}
 use Rattle.tr_table.specs.Slots.{all_in, retargeted_slot, standing}
+use Rattle.tr_table.proofs.Owns.{own_retargeted}
 use Rattle.tr_table.proofs.Standing.{sorted_aimed, standing_retargeted}
 use Rattle.tr_table.proofs.Retargeting.{unaimed}
 use Rattle.tr_table.proofs.pending.Pending.retarget.Goals as goal
@@ -42,6 +44,7 @@ returns-clause-kept c =
       sorted = subst (λ xs. IsSorted (all_in xs)) (sym moved) (sorted_aimed from to ss k.sorted);
       lines = subst (λ xs. AreLines c.enter_all.new.lines c.enter_all.new.queues (standing xs)) c.deref.ensures.value c.enter_all.ensures.made;
       counted = omega (arith, n, k.counted);
+      counted_own = k.counted_own ∙ sym (ap count_own (ap standing moved ∙ standing_retargeted from to ss) ∙ own_retargeted from to (standing ss));
       small = k.small;
       slot_places = omega (arith, k.slot_places, c.retarget.ensures.len, c.retarget.ensures.capacity);
       line_places = record {
