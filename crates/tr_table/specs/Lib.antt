@@ -4,6 +4,7 @@ pub mod Order
 pub mod Changes
 pub mod Choices
 pub mod Queues
+pub mod Hashing
 pub mod Lines
 pub mod Slots
 pub mod Rows

@@ -8,6 +8,7 @@ mod free_ids;
 mod good_starts;
 mod group_list;
 mod groups;
+mod hashing;
 mod index;
 mod items;
 mod leader_rows;

@@ -12,6 +12,7 @@ ghost use Rattle.tr_table.specs.Slots.{line_in, standing};
 ghost use Rattle.tr_table.specs.declared.lines.Line.{Line};
 ghost use Rattle.tr_table.specs.declared.lines.Queue.{Queue};
 
+use crate::hashing::WordHashing;
 use crate::picked::is_one;
 use crate::slots::Slot;
 use indexmap::IndexMap;
@@ -43,7 +44,7 @@ pub(crate) struct Queue {
 
 /// Writes the value of a key that the map has, or takes the key out.
 pub(crate) fn rewrite<K: Eq + Hash + Drop, V: Drop>(
-    map: &mut IndexMap<K, V>,
+    map: &mut IndexMap<K, V, WordHashing>,
     key: &K,
     value: Option<V>,
 )
@@ -66,22 +67,6 @@ pub(crate) fn rewrite<K: Eq + Hash + Drop, V: Drop>(
     }
 }
 
-/// Writes the value of a key, which may be new. It takes no memory.
-pub(crate) fn write<K: Eq + Hash + Copy, V: Copy>(map: &mut IndexMap<K, V>, key: &K, value: V)
-    requires { 0 < spare map.old }
-    ensures get { (k : K)
-        → get K.eq map.new k ≡ (if K.eq key.now k then Some value else get K.eq map.old k) }
-    ensures spare { spare map.old ≤ spare map.new + 1 }
-    ensures places { index_map_len map.old + spare map.old ≤ index_map_len map.new + spare map.new }
-{
-    match map.get_mut(key) {
-        Some(kept) => *kept = value,
-        None => {
-            let _none = map.insert(*key, value).unwrap();
-        }
-    }
-}
-
 fn key_of(waiting: &Waiting) -> LineKey
     ensures { result ≡ record { target = waiting.now.target; signal = waiting.now.instance.sig } }
 {
@@ -92,7 +77,7 @@ fn key_of(waiting: &Waiting) -> LineKey
 }
 
 /// Puts an instance last in its line.
-pub(crate) fn enter_line(lines: &mut IndexMap<LineKey, Line>, waiting: &Waiting)
+pub(crate) fn enter_line(lines: &mut IndexMap<LineKey, Line, WordHashing>, waiting: &Waiting)
     requires spare { 0 < spare lines.old }
     requires few { (l : Line)
         → line_at lines.old waiting.now.target waiting.now.instance.sig ≡ Some l
@@ -109,25 +94,20 @@ pub(crate) fn enter_line(lines: &mut IndexMap<LineKey, Line>, waiting: &Waiting)
         ≤ index_map_len lines.new + spare lines.new }
 {
     let key = key_of(waiting);
-    let line = longer(lines.get(&key).copied(), waiting.instance.n);
-    write(lines, &key, line);
-}
-
-fn longer(line: Option<Line>, n: u64) -> Line
-    requires { (l : Line) → line ≡ Some l → l.count + 1 < 2 ^ 64 }
-    ensures { result ≡ longer n line }
-{
-    match line {
-        Some(line) => Line {
-            first: line.first,
-            count: line.count + 1,
-        },
-        None => Line { first: n, count: 1 },
+    match lines.get_mut(&key) {
+        Some(line) => line.count += 1,
+        None => {
+            let line = Line {
+                first: waiting.instance.n,
+                count: 1,
+            };
+            let _none = lines.insert(key, line).unwrap();
+        }
     }
 }
 
 /// Puts an instance last in its queue.
-pub(crate) fn enter_queue(queues: &mut IndexMap<Target, Queue>, waiting: &Waiting)
+pub(crate) fn enter_queue(queues: &mut IndexMap<Target, Queue, WordHashing>, waiting: &Waiting)
     requires spare { 0 < spare queues.old }
     requires few { (x : Queue)
         → queue_at queues.old waiting.now.target ≡ Some x
@@ -143,27 +123,27 @@ pub(crate) fn enter_queue(queues: &mut IndexMap<Target, Queue>, waiting: &Waitin
     ensures places { index_map_len queues.old + spare queues.old
         ≤ index_map_len queues.new + spare queues.new }
 {
-    let queue = wider(queues.get(&waiting.target).copied(), &waiting.instance);
-    write(queues, &waiting.target, queue);
+    match queues.get_mut(&waiting.target) {
+        Some(queue) => widen(queue, &waiting.instance),
+        None => {
+            let queue = Queue {
+                mask: SigSet::empty().with(waiting.instance.sig),
+                count: 1,
+            };
+            let _none = queues.insert(waiting.target, queue).unwrap();
+        }
+    }
 }
 
-/// A queue with one more instance, which comes last.
-fn wider(queue: Option<Queue>, instance: &Instance) -> Queue
-    requires { (x : Queue) → queue ≡ Some x → x.count + 1 < 2 ^ 64 }
+/// A queue has one more instance, which comes last.
+fn widen(queue: &mut Queue, instance: &Instance)
+    requires { queue.old.count + 1 < 2 ^ 64 }
     ensures { (is : List Instance)
-        → IsQueue queue is
-        → IsQueue (Some result) (is ++ instance.now ∷ []) }
+        → IsQueue (Some queue.old) is
+        → IsQueue (Some queue.new) (is ++ instance.now ∷ []) }
 {
-    match queue {
-        Some(queue) => Queue {
-            mask: queue.mask.with(instance.sig),
-            count: queue.count + 1,
-        },
-        None => Queue {
-            mask: SigSet::empty().with(instance.sig),
-            count: 1,
-        },
-    }
+    queue.mask = queue.mask.with(instance.sig);
+    queue.count += 1;
 }
 
 /// The number of the first that waits of one signal for one target, in these slots.
@@ -201,7 +181,7 @@ fn left_of(line: &Line, waiting: &Waiting, after: &[Slot]) -> Option<Line>
 
 /// Takes an instance out of its line, and says whether the line has others.
 pub(crate) fn leave_line(
-    lines: &mut IndexMap<LineKey, Line>,
+    lines: &mut IndexMap<LineKey, Line, WordHashing>,
     waiting: &Waiting,
     after: &[Slot],
 ) -> bool
@@ -232,7 +212,11 @@ pub(crate) fn leave_line(
 }
 
 /// Takes an instance out of its queue; `stays` says whether others of its signal wait there.
-pub(crate) fn leave_queue(queues: &mut IndexMap<Target, Queue>, waiting: &Waiting, stays: bool)
+pub(crate) fn leave_queue(
+    queues: &mut IndexMap<Target, Queue, WordHashing>,
+    waiting: &Waiting,
+    stays: bool,
+)
     requires { is_some (queue_at queues.old waiting.now.target) ≡ true }
     ensures own { (q : Target) (before after : List Instance)
         → same_target waiting.now.target q ≡ true
@@ -276,8 +260,8 @@ fn narrower(queue: &Queue, signal: Signal, stays: bool) -> Option<Queue>
 
 /// Makes the lines and the queues of all that waits in these slots.
 pub(crate) fn enter_all(
-    lines: &mut IndexMap<LineKey, Line>,
-    queues: &mut IndexMap<Target, Queue>,
+    lines: &mut IndexMap<LineKey, Line, WordHashing>,
+    queues: &mut IndexMap<Target, Queue, WordHashing>,
     slots: &[Slot],
 )
     requires empty { AreLines lines.old queues.old [] }

@@ -10,6 +10,7 @@ ghost use Rattle.tr_table.specs.Queues.{AllBelow, own_share, without_one};
 ghost use Rattle.tr_table.specs.Slots.{IsPending, emptied, standing};
 ghost use Rattle.tr_table.specs.declared.slots.Slot.{Slot};
 
+use crate::hashing::WordHashing;
 use crate::lines::{
     Line, LineKey, Queue, enter_all, enter_line, enter_queue, leave_line, leave_queue,
 };
@@ -18,6 +19,7 @@ use crate::slots::{Slot, close_up, place_of, retarget, trim};
 use crate::threads::Threads;
 use indexmap::IndexMap;
 use std::alloc::{AllocError, Global};
+use std::hash::BuildHasherDefault;
 use tr_model::{Ending, Target, Waiting};
 use tr_pending::Instance;
 use tr_sigset::{SigSet, Signal};
@@ -35,8 +37,8 @@ fn own_share(target: Target) -> usize
 /// All that waits, in slots that stand in order of acceptance, with an index of its lines and queues.
 pub(crate) struct Pending {
     pub(crate) slots: Vec<Slot>,
-    pub(crate) lines: IndexMap<LineKey, Line>,
-    pub(crate) queues: IndexMap<Target, Queue>,
+    pub(crate) lines: IndexMap<LineKey, Line, WordHashing>,
+    pub(crate) queues: IndexMap<Target, Queue, WordHashing>,
     pub(crate) count: usize,
     /// How many of these wait for threads, and not for groups.
     pub(crate) own: usize,
@@ -65,8 +67,8 @@ impl Pending {
     {
         Pending {
             slots: Vec::new(alloc),
-            lines: IndexMap::new(alloc),
-            queues: IndexMap::new(alloc),
+            lines: IndexMap::with_hasher(alloc, BuildHasherDefault::new()),
+            queues: IndexMap::with_hasher(alloc, BuildHasherDefault::new()),
             count: 0,
             own: 0,
             room: 0,

@@ -1,14 +1,36 @@
-use Rattle.std.proofs.Common.{◌≡◌, ◌∙◌, rules, sym, ap, Some, if◌then◌else◌}
-use Rattle.tr_model.specs.Tables.{same_target}
-use Rattle.tr_table.specs.Lines.{queue_at}
+use Rattle.std.proofs.Common.{◌≡◌, ◌∙◌, ◌++◌, ◌∷◌, [], Some, false, if◌then◌else◌, ap, arith, rules, subst, sym}
+use Rattle.indexmap.specs.IndexMap.{get}
+use Rattle.tr_model.specs.contracts.rows.TargetPartialEq.TheImpl as target_test
+use Rattle.tr_table.specs.declared.lines.Queue.{Queue}
+use Rattle.tr_table.specs.Lines.{IsQueue, queue_at}
+use Rattle.tr_table.proofs.Keys.{by_target}
 use Rattle.tr_table.proofs.lines.enter_queue.Goals as goal
 
-pub wider-queue-requires : goal.wider-queue-requires
-wider-queue-requires c =
-    let found : c.copied.result ≡ queue_at c.args.queues.now c.args.waiting.now.target = search rules in
-    λ x e. c.requires.few x (sym found ∙ e)
+pub widen-requires : goal.widen-requires
+widen-requires c =
+    let found : queue_at c.args.queues.now c.args.waiting.now.target ≡ Some c.in-Some.queue.now = search rules in
+    let few = c.requires.few c.in-Some.queue.now found in
+    omega (arith, few)
 
-pub returns-clause-others : goal.returns-clause-others
-returns-clause-others c = λ q e.
-    let wrote : queue_at c.write.new.map q ≡ (if same_target c.args.waiting.now.target q then Some c.wider-queue.result else queue_at c.args.queues.now q) = search (rules, c.write.ensures.get q) in
-    wrote ∙ ap (λ b. if b then Some c.wider-queue.result else queue_at c.args.queues.now q) e
+pub returns-in-Some-clause-own : goal.returns-in-Some-clause-own
+returns-in-Some-clause-own c = λ q is e h.
+    let t = c.args.waiting.now.target in
+    let i = c.args.waiting.now.instance in
+    let queue : Queue = c.widen.new.queue in
+    let found : queue_at c.args.queues.now t ≡ Some c.in-Some.queue.now = search rules in
+    let wrote : get target_test.ghosts.eq (c.get_mut.follows.lender queue) q ≡ (if target_test.ghosts.eq t q then Some queue else get target_test.ghosts.eq c.args.queues.now q) = search rules in
+    let here : queue_at (c.get_mut.follows.lender queue) q ≡ Some queue = subst (λ eq. get eq (c.get_mut.follows.lender queue) q ≡ (if eq t q then Some queue else get eq c.args.queues.now q)) by_target wrote ∙ ap (λ b. if b then Some queue else queue_at c.args.queues.now q) e in
+    subst (λ x. IsQueue x (is ++ i ∷ [])) (sym here) (c.widen.ensures is (subst (λ x. IsQueue x is) found h))
+
+pub returns-in-Some-clause-others : goal.returns-in-Some-clause-others
+returns-in-Some-clause-others c = λ q e.
+    let t = c.args.waiting.now.target in
+    let queue : Queue = c.widen.new.queue in
+    let wrote : get target_test.ghosts.eq (c.get_mut.follows.lender queue) q ≡ (if target_test.ghosts.eq t q then Some queue else get target_test.ghosts.eq c.args.queues.now q) = search rules in
+    subst (λ eq. get eq (c.get_mut.follows.lender queue) q ≡ (if eq t q then Some queue else get eq c.args.queues.now q)) by_target wrote ∙ ap (λ b. if b then Some queue else queue_at c.args.queues.now q) e
+
+pub returns-in-None-clause-others : goal.returns-in-None-clause-others
+returns-in-None-clause-others c = λ q e.
+    let off : target_test.ghosts.eq c.args.waiting.now.target q ≡ false = subst (λ eq. eq c.args.waiting.now.target q ≡ false) (sym by_target) e in
+    let wrote : get target_test.ghosts.eq c.insert.new.self q ≡ get target_test.ghosts.eq c.args.queues.now q = search (rules, off) in
+    subst (λ eq. get eq c.insert.new.self q ≡ get eq c.args.queues.now q) by_target wrote
