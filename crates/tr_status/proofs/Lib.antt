@@ -1,3 +1,4 @@
+pub mod Codes
 pub mod Fronts
 pub mod Lines
 pub mod SameSets

@@ -1,4 +1,5 @@
 pub mod Faults
+pub mod Private
 pub mod Shown
 pub mod Statuses
 pub mod Texts

@@ -1,16 +1,18 @@
-ghost use Rattle.std.specs.Prelude.{◌≡◌, ◌≤◌, ◌==◌, ◌||◌, ℕ, length, option_copied, take, unwrap_or};
+ghost use Rattle.std.specs.Prelude.{◌≡◌, ◌≤◌, ℕ, length, map, option_copied, take, unwrap_or};
 ghost use Rattle.tr_lanes.specs.Digits.{set_digits};
 ghost use Rattle.tr_model.specs.declared.rows.Target.TheVariants as target;
 ghost use Rattle.tr_model.specs.Tables.{actions_of, group_of};
 ghost use Rattle.tr_group.specs.declared.stops.Action.TheVariants as action;
 ghost use Rattle.tr_sigset.specs.Sets.{has};
 ghost use Rattle.tr_tracee.specs.Threads.{tracer_of};
-ghost use Rattle.tr_status.specs.Statuses.{has_action, name_text, same_action, state_text, waits_for};
+ghost use Rattle.tr_status.specs.Statuses.{has_action, name_text, state_text, waits_for};
+ghost use Rattle.tr_status.specs.Private.{code_of};
 
+use std::simd::prelude::*;
 use tr_group::Action;
 use tr_lanes::hex16;
 use tr_model::{Group, Target};
-use tr_sigset::{SigSet, Signal};
+use tr_sigset::SigSet;
 use tr_table::Table;
 use tr_tracee::{Life, Thread, Trace};
 
@@ -73,41 +75,32 @@ fn signals_with(group: Option<&Group>, wanted: Action) -> SigSet
     }
 }
 
+/// The signals that have this action, by one comparison of all of them.
 fn signals_in(actions: &[Action; 64], wanted: Action) -> SigSet
     ensures { (n : ℕ) → has result n ≡ has_action wanted actions.now n }
 {
-    let mut signals = SigSet::empty();
-    for place in 0..64u8 {
-        if same_action(wanted, actions[usize::from(place)]) {
-            signals = with_numbered(signals, place + 1);
-        }
-    }
-    signals
+    let codes = codes_of(actions);
+    let equal = u8x64::from_array(codes).simd_eq(u8x64::splat(code_of(wanted)));
+    SigSet::from_bits(equal.to_bitmask())
 }
 
-/// The set with the signal of a number put in.
-fn with_numbered(signals: SigSet, number: u8) -> SigSet
-    requires least { 1 ≤ number }
-    requires greatest { number ≤ 64 }
-    ensures { (n : ℕ) → has result n ≡ (has signals n || n == number) }
+/// Each action as a number of its own.
+fn codes_of(actions: &[Action; 64]) -> [u8; 64]
+    ensures { result ≡ map code_of actions.now }
 {
-    match Signal::new(number) {
-        Some(signal) => signals.with(signal),
-        None => signals,
+    let mut codes = [0; 64];
+    for place in 0..64 {
+        codes[place] = code_of(actions[place]);
     }
+    codes
 }
 
-fn same_action(one: Action, other: Action) -> bool
-    ensures { result ≡ same_action one other }
+#[inline(always)]
+fn code_of(action: Action) -> u8
+    ensures { result ≡ code_of action }
 {
-    match (one, other) {
-        (Action::Default, Action::Default) => true,
-        (Action::Ignore, Action::Ignore) => true,
-        (Action::Catch, Action::Catch) => true,
-        _ => false,
-    }
+    action as u8
 }
-
 /// The name of a group's program, empty where there is no group.
 pub(crate) fn name_of(group: Option<&Group>) -> &[u8]
     ensures text { result.now ≡ name_text (option_copied group.entry) }
