@@ -79,12 +79,7 @@ fn lacks_memory(answer: &Result<Reply, Refusal>) -> bool
 }
 
 /// Makes this product's own answer.
-fn make(
-    kernel: &mut Kernel,
-    actor: u32,
-    event: &Event,
-    own: &Prospect,
-) -> Result<(), AllocError>
+fn make(kernel: &mut Kernel, actor: u32, event: &Event, own: &Prospect) -> Result<(), AllocError>
     requires foreseen { own.now.answer ≡ foreseen kernel.old (call_of actor event.now) }
     requires choice { own.now.choice ≡ choice_ahead kernel.old (call_of actor event.now) }
     requires history { IsHistory kernel.old }
