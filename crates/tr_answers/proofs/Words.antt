@@ -1,36 +1,98 @@
 -- Texts that fit, word by word.
-use Rattle.std.proofs.Common.{◌≡◌, ◌≢◌, ◌∙◌, ◌==◌, ℕ, List, [], ◌∷◌, ap, sym, refl, length, Bool, true, false, ◌&&◌, ◌||◌, Decides, arith}
+use Rattle.std.proofs.Common.{◌≡◌, ◌≢◌, ◌∙◌, true≢false, ◌==◌, ℕ, List, [], ◌∷◌, ap, sym, refl, length, Bool, true, false, ◌&&◌, ◌||◌, ◌+◌, ◌<◌, ◌≤◌, Decides, arith, drop, take, take_all, not, nat_lt, ltb-true, ltb-false}
 use Rattle.std.proofs.lemmas.Bool.{and_parts, or_parts}
 use Rattle.std.proofs.lemmas.Bool.Decides.{Decides-eqb, same_from_decides}
-use Rattle.std.proofs.lemmas.List.Splits.{join_with_byte-slice_split}
+use Rattle.std.proofs.lemmas.List.Splits.{join_with_byte-slice_split, slice_split-cons_no, slice_split-cons_yes, slice_split_first}
+use Rattle.std.proofs.lemmas.List.Sums.{prefix_len-le-length}
 use Rattle.std.proofs.lemmas.Slice.Eq.{bytes_eq-Decides}
-use Rattle.std.proofs.Math.Bool.{and-false}
-use Rattle.std.specs.List.{join_with_byte, list_all, list_any, zip}
+use Rattle.std.specs.List.{join_with_byte, list_any, onto_first, position_or_len}
 use Rattle.std.specs.Str.{bytes_eq}
 use Rattle.tr_answers.specs.Fits.{any_word, fit, fits, fits_word, is_open, words}
 
--- As many words, each of which fits
+-- Word by word
 
-abbrev pub in_turn : List (List ℕ) → List (List ℕ) → Bool
-in_turn es ws = list_all (λ p. fits_word p.0 p.1) (zip es ws)
+abbrev is_space : ℕ → Bool
+is_space b = b == 32
 
-pub fit_all : (es ws : List (List ℕ)) → length es ≡ length ws → fit es ws ≡ in_turn es ws
-fit_all [] [] h = refl
-fit_all [] (w ∷ ws) h = absurd (omega arith)
-fit_all (e ∷ es) [] h = absurd (omega arith)
-fit_all (e ∷ es) (w ∷ ws) h = ap (λ b. fits_word e w && b) (fit_all es ws (omega arith))
+more_words : (t : List ℕ) → position_or_len is_space t < length t → words t ≡ take (position_or_len is_space t) t ∷ words (drop (position_or_len is_space t + 1) t)
+more_words t h = slice_split_first is_space t 0 h
 
-pub fit_none : (es ws : List (List ℕ)) → length es ≢ length ws → fit es ws ≡ false
-fit_none [] [] h = absurd (h refl)
-fit_none [] (w ∷ ws) h = refl
-fit_none (e ∷ es) [] h = refl
-fit_none (e ∷ es) (w ∷ ws) h = ap (λ b. fits_word e w && b) (fit_none es ws (λ k. h (omega arith))) ∙ and-false (fits_word e w)
+one_word : (t : List ℕ) → position_or_len is_space t ≡ length t → words t ≡ t ∷ []
+one_word [] h = refl
+one_word (x ∷ xs) h = go (x == 32) refl (one_word xs)
+  where
+    go : (b : Bool) → (x == 32) ≡ b → (position_or_len is_space xs ≡ length xs → words xs ≡ xs ∷ []) → words (x ∷ xs) ≡ (x ∷ xs) ∷ []
+    go true e k = let none = rw e at h in absurd (omega (arith, none))
+    go false e k = let rest = rw e at h in slice_split-cons_no is_space x xs e ∙ ap (onto_first x) (k (omega (arith, rest)))
 
-pub all_fit : (expected text : List ℕ) (r : Bool) → (length (words expected) == length (words text)) ≡ true → r ≡ in_turn (words expected) (words text) → r ≡ fits expected text
-all_fit expected text r many h = h ∙ sym (fit_all (words expected) (words text) ((Decides-eqb (length (words expected)) (length (words text))).0 many))
+words_are_some : (u : List ℕ) → (w : List ℕ) × (ws : List (List ℕ)) × (words u ≡ w ∷ ws)
+words_are_some [] = ([], [], refl)
+words_are_some (x ∷ xs) = by (x == 32) refl (words_are_some xs)
+  where
+    by : (b : Bool) → (x == 32) ≡ b → (w : List ℕ) × (ws : List (List ℕ)) × (words xs ≡ w ∷ ws) → (w : List ℕ) × (ws : List (List ℕ)) × (words (x ∷ xs) ≡ w ∷ ws)
+    by true e r = ([], words xs, slice_split-cons_yes is_space x xs e)
+    by false e r = (x ∷ r.0, r.1, slice_split-cons_no is_space x xs e ∙ ap (onto_first x) r.2)
 
-pub none_fits : (expected text : List ℕ) → (length (words expected) == length (words text)) ≡ false → false ≡ fits expected text
-none_fits expected text many = sym (fit_none (words expected) (words text) (λ e. let k = (Decides-eqb (length (words expected)) (length (words text))).1 e in cc))
+-- the first word, and what follows it
+record Begins (t : List ℕ) : Type 0 where
+  rest : List (List ℕ)
+  whole : words t ≡ take (position_or_len is_space t) t ∷ rest
+  none : position_or_len is_space t ≡ length t → rest ≡ []
+  some : position_or_len is_space t < length t → (w : List ℕ) × (ws : List (List ℕ)) × (rest ≡ w ∷ ws)
+
+begins : (t : List ℕ) → Begins t
+begins t = go (nat_lt (position_or_len is_space t) (length t)) refl
+  where
+    at_most : position_or_len is_space t ≤ length t
+    at_most = prefix_len-le-length (λ x. not (is_space x)) t
+
+    go : (b : Bool) → nat_lt (position_or_len is_space t) (length t) ≡ b → Begins t
+    go true e =
+        let less : position_or_len is_space t < length t = ltb-true (position_or_len is_space t) (length t) e in
+        record {
+          rest = words (drop (position_or_len is_space t + 1) t);
+          whole = more_words t less;
+          none = λ k. absurd (omega (arith, less, k));
+          some = λ k. words_are_some (drop (position_or_len is_space t + 1) t);
+        }
+    go false e =
+        let all : position_or_len is_space t ≡ length t = omega (arith, at_most, ltb-false (position_or_len is_space t) (length t) e) in
+        record {
+          rest = [];
+          whole = one_word t all ∙ ap (λ w. w ∷ []) (sym (take_all (position_or_len is_space t) t (omega (arith, all))));
+          none = λ k. refl;
+          some = λ k. absurd (omega (arith, all, k));
+        }
+
+-- the first word doesn't fit
+pub misfit : (e t : List ℕ) (i j : ℕ) → i ≡ position_or_len is_space e → j ≡ position_or_len is_space t → fits_word (take i e) (take j t) ≡ false → fits e t ≡ false
+misfit e t i j p q h = let a = begins e in let b = begins t in rw (a.whole, b.whole, rw (p, q) at h) refl
+
+-- it does, and no word is left in either text
+pub both_end : (e t : List ℕ) (i j : ℕ) → i ≡ position_or_len is_space e → j ≡ position_or_len is_space t → fits_word (take i e) (take j t) ≡ true → i ≡ length e → j ≡ length t → fits e t ≡ true
+both_end e t i j p q h k l = let a = begins e in let b = begins t in rw (a.whole, b.whole, rw (p, q) at h, a.none (sym p ∙ k), b.none (sym q ∙ l)) refl
+
+-- it does, and words are left in one text alone
+pub expected_goes_on : (e t : List ℕ) (i j : ℕ) → i ≡ position_or_len is_space e → j ≡ position_or_len is_space t → fits_word (take i e) (take j t) ≡ true → i < length e → j ≡ length t → fits e t ≡ false
+expected_goes_on e t i j p q h k l = let a = begins e in let b = begins t in let more = a.some (omega (arith, p, k)) in rw (a.whole, b.whole, rw (p, q) at h, more.2, b.none (sym q ∙ l)) refl
+
+pub text_goes_on : (e t : List ℕ) (i j : ℕ) → i ≡ position_or_len is_space e → j ≡ position_or_len is_space t → fits_word (take i e) (take j t) ≡ true → i ≡ length e → j < length t → fits e t ≡ false
+text_goes_on e t i j p q h k l = let a = begins e in let b = begins t in let more = b.some (omega (arith, q, l)) in rw (a.whole, b.whole, rw (p, q) at h, a.none (sym p ∙ k), more.2) refl
+
+-- it does, and is the last one that is expected
+pub last_word : (e t : List ℕ) (i j : ℕ) → i ≡ position_or_len is_space e → j ≡ position_or_len is_space t → fits_word (take i e) (take j t) ≡ true → i ≡ length e → j ≤ length t → (j == length t) ≡ fits e t
+last_word e t i j p q h k l = go (j == length t) refl
+  where
+    go : (b : Bool) → (j == length t) ≡ b → b ≡ fits e t
+    go true f = sym (both_end e t i j p q h k ((Decides-eqb j (length t)).0 f))
+    go false f =
+        let apart : j ≢ length t = λ m. true≢false (sym ((Decides-eqb j (length t)).1 m) ∙ f) in
+        sym (text_goes_on e t i j p q h k (omega (arith, l, apart)))
+
+-- it does, and the next words decide
+pub next_words : (e t : List ℕ) (i j : ℕ) → i ≡ position_or_len is_space e → j ≡ position_or_len is_space t → fits_word (take i e) (take j t) ≡ true → i < length e → j < length t
+    → fits e t ≡ fits (drop (i + 1) e) (drop (j + 1) t)
+next_words e t i j p q h k l = rw (more_words e (omega (arith, p, k)), more_words t (omega (arith, q, l)), p, q, rw (p, q) at h) refl
 
 -- Where no word is open, the text itself
 

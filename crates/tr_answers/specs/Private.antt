@@ -1,5 +1,5 @@
 -- What only private functions' contracts cite.
-use Rattle.std.specs.Prelude.{◌≡◌, ◌⊎◌, ℕ, List, ◌++◌, Bool, true, false, Result, Ok, Err}
+use Rattle.std.specs.Prelude.{◌≡◌, ◌⊎◌, ℕ, List, ◌++◌, Bool, true, false, Result, Ok, Err, codes}
 use Rattle.tr_model.specs.declared.replies.Refusal.{Refusal}
 use Rattle.tr_model.specs.declared.replies.Reply.{Reply}
 use Rattle.tr_kernel.specs.States.{State}
@@ -7,8 +7,12 @@ use Rattle.tr_oracle.specs.Expected.{IsAnswered}
 use Rattle.tr_status.specs.Writing.{IsFront}
 use Rattle.tr_scenario.specs.declared.faults.ScenarioFault.{ScenarioFault}
 use Rattle.tr_scenario.specs.Printing.{Fills, IsHalt}
-use Rattle.tr_answers.specs.Comparisons.{Asked, Differs, Goes, IsRefuted, difference_line, is_expected, made_line}
+use Rattle.tr_answers.specs.Comparisons.{Asked, Differs, Goes, IsRefuted, difference_line, is_expected, made_line, step_text}
 use Rattle.tr_answers.specs.Compares.{Starts}
+
+-- what the lines of the answers of one call begin with
+abbrev pub assumed_front : Asked → List ℕ
+assumed_front q = step_text q ++ codes "assumed `"
 
 -- the call is made, and its line comes on the page; or no answer that it may be given fits, and that comes
 abbrev pub IsTried : State → State → Asked → List ℕ → List ℕ → Bool → Type 0

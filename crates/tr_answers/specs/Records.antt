@@ -48,6 +48,10 @@ whole_record r = do
   _ ← whole (asked r)
   Ok r
 
+-- the record that a value is, or its first fault
+abbrev pub record_in : Data → Result Record ScenarioFault
+record_in d = walk d >>= whole_record
+
 -- the record that the bytes are, or their first fault
 unfoldable pub record_of : List ℕ → Result Record ScenarioFault
-record_of bytes = read_by (λ d. walk d >>= whole_record) bytes
+record_of bytes = read_by record_in bytes

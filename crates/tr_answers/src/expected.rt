@@ -1,6 +1,6 @@
-ghost use Rattle.std.specs.Prelude.{◌≡◌, ◌≢◌, ◌==◌, ◌<◌, ◌^◌, ℕ, decimal, length, IfOk, MatchOption};
-ghost use Rattle.std.specs.List.{list_all, zip};
-ghost use Rattle.tr_answers.specs.Fits.{fits, fits_word, is_open, words};
+ghost use Rattle.std.specs.Prelude.{◌≡◌, ◌≢◌, ◌==◌, ◌<◌, ◌≤◌, ◌+◌, ◌^◌, ℕ, decimal, drop, length, IfOk, MatchOption};
+ghost use Rattle.std.specs.List.{position_or_len};
+ghost use Rattle.tr_answers.specs.Fits.{fits, fits_word, is_open};
 
 use crate::lines::prepend_answer;
 use itoa::Buffer;
@@ -93,27 +93,57 @@ fn has_open_word(expected: &[u8]) -> bool
         .any(|word| word == b"_".as_slice())
 }
 
+/// Goes over both texts word by word, up to the first word that doesn't fit.
 fn fit_by_words(expected: &[u8], text: &[u8]) -> bool
     ensures { result ≡ fits expected.now text.now }
 {
-    has_as_many_words(expected, text) && fit_in_turn(expected, text)
+    let mut expected = expected;
+    let mut text = text;
+    'words: loop {
+        let expected_end = first_end(expected);
+        let end = first_end(text);
+        if !fits_word(&expected[..expected_end], &text[..end]) {
+            return false;
+        }
+        if expected_end == expected.len() {
+            return end == text.len();
+        }
+        if end == text.len() {
+            return false;
+        }
+        expected = after(expected, expected_end);
+        text = after(text, end);
+    }
 }
 
-fn has_as_many_words(expected: &[u8], text: &[u8]) -> bool
-    ensures { result ≡ length (words expected.now) == length (words text.now) }
+#[inline(always)]
+fn fits_word(expected: &[u8], word: &[u8]) -> bool
+    ensures { result ≡ fits_word expected.now word.now }
 {
-    expected.split(|byte| *byte == b' ').count() == text.split(|byte| *byte == b' ').count()
+    expected == b"_".as_slice() || expected == word
 }
 
-/// Tells whether the words fit, up to the end of the shorter text.
-fn fit_in_turn(expected: &[u8], text: &[u8]) -> bool
-    ensures { result
-        ≡ list_all (λ p. fits_word p.0 p.1) (zip (words expected.now) (words text.now)) }
+/// Gives where the first word of a text ends.
+#[inline(always)]
+fn first_end(text: &[u8]) -> usize
+    ensures end { result ≡ position_or_len (λ b. b == 32) text.now }
+    ensures within { result ≤ length text.now }
 {
-    expected
-        .split(|byte| *byte == b' ')
-        .zip(text.split(|byte| *byte == b' '))
-        .all(|(expected, word)| expected == b"_".as_slice() || expected == word)
+    for (place, byte) in text.iter().enumerate() {
+        if *byte == b' ' {
+            return place;
+        }
+    }
+    text.len()
+}
+
+/// Gives what stands after a place of a text.
+#[inline(always)]
+fn after(text: &[u8], place: usize) -> &[u8]
+    requires { place < length text.now }
+    ensures { result.now ≡ drop (place + 1) text.now }
+{
+    &text[place + 1..]
 }
 
 /// Gives the number that these are the digits of, as it is printed: with no sign, and with no zero before others.

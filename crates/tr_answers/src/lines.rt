@@ -1,5 +1,6 @@
 ghost use Rattle.std.specs.Prelude.{◌≡◌, ◌≤◌, ◌+◌, ◌∷◌, ◌++◌, Ok, OnOk, codes, map};
-ghost use Rattle.tr_answers.specs.Comparisons.{admitted, agreement_line, answer_text, asked_by, assumed_line, difference_line, listed, quoted, step_text};
+ghost use Rattle.tr_answers.specs.Comparisons.{admitted, agreement_line, answer_text, asked_by, difference_line, listed, quoted, step_text};
+ghost use Rattle.tr_answers.specs.Private.{assumed_front};
 ghost use Rattle.tr_scenario.specs.RunTexts.{call_of};
 
 use crate::expected::Expected;
@@ -34,22 +35,30 @@ fn prepend_step(text: &mut LineBuffer, place: usize, answered: &Answered)
     text.prepend(b"step ");
 }
 
-/// Appends the line of an answer that was made.
+/// Composes the front of the lines of a step whose answers are told.
+pub(crate) fn assumed_front(place: usize, answered: &Answered) -> LineBuffer
+    ensures { result.text ≡ assumed_front (asked_by place answered.now) }
+{
+    let mut front = LineBuffer::new();
+    front.prepend(b"assumed `");
+    prepend_step(&mut front, place, answered);
+    front
+}
+
+/// Appends the line of an answer that was made, which begins with this front.
 pub(crate) fn push_assumed(
     page: &mut Page,
-    place: usize,
-    answered: &Answered,
+    front: &LineBuffer,
     answer: &Result<Reply, Refusal>,
 ) -> Result<(), AllocError>
     ensures { OnOk result (page.new
-        ≡ page.old ++ assumed_line (asked_by place answered.now) answer.now) }
+        ≡ page.old ++ (front.now.text ++ (answer_text answer.now ++ codes "`\n"))) }
 {
-    let mut line = LineBuffer::new();
-    line.prepend(b"`\n");
-    prepend_answer(&mut line, answer);
-    line.prepend(b"assumed `");
-    prepend_step(&mut line, place, answered);
-    page.push(line.as_bytes())
+    let mut rest = LineBuffer::new();
+    rest.prepend(b"`\n");
+    prepend_answer(&mut rest, answer);
+    page.push(front.as_bytes())?;
+    page.push(rest.as_bytes())
 }
 
 /// Appends an answer between backquotes.

@@ -3,7 +3,7 @@ ghost use Rattle.serde_json.specs.View.{view};
 ghost use Rattle.tr_scenario.specs.declared.faults.ScenarioFault.TheVariants.{NoMemory};
 ghost use Rattle.tr_scenario.specs.Fields.{Gives};
 ghost use Rattle.tr_scenario.specs.Scenarios.{IsExact, calls_of_steps};
-ghost use Rattle.tr_answers.specs.Records.{answer_of, record_of, walk, whole_record};
+ghost use Rattle.tr_answers.specs.Records.{answer_of, record_in, record_of, walk, whole_record};
 
 use crate::expected::Expected;
 use serde_json::Value;
@@ -62,12 +62,14 @@ pub fn read(alloc: Global, bytes: &[u8]) -> Result<Record, ScenarioFault>
     ensures memory { IfErr result
         (λ e. e ≡ NoMemory → (0 < length bytes.now) × (length bytes.now ≤ 1048576)) }
 {
-    record_from(alloc, bytes)
+    let (_value, record) = read_with_value(alloc, bytes)?;
+    Ok(record)
 }
 
+/// Reads a record as `read` does, and gives the JSON value that it was read from beside it.
 #[tactic(auto, unfolding(crate::specs::Records::record_of))]
-fn record_from(alloc: Global, bytes: &[u8]) -> Result<Record, ScenarioFault>
-    ensures gives { Gives (λ r. r) result (record_of bytes.now) }
+pub(crate) fn read_with_value(alloc: Global, bytes: &[u8]) -> Result<(Value, Record), ScenarioFault>
+    ensures gives { Gives (λ p. p.1) result (record_of bytes.now) }
     ensures memory { IfErr result
         (λ e. e ≡ NoMemory → (0 < length bytes.now) × (length bytes.now ≤ 1048576)) }
 {
@@ -75,7 +77,15 @@ fn record_from(alloc: Global, bytes: &[u8]) -> Result<Record, ScenarioFault>
         return Err(ScenarioFault::TooLarge);
     }
     let value = json(alloc, bytes)?;
-    let record = walk(alloc, &value)?;
+    let record = read_from(alloc, &value)?;
+    Ok((value, record))
+}
+
+/// Reads the record that a JSON value is.
+fn read_from(alloc: Global, value: &Value) -> Result<Record, ScenarioFault>
+    ensures { Gives (λ r. r) result (record_in (view value.now)) }
+{
+    let record = walk(alloc, value)?;
     whole(alloc, record)
 }
 

@@ -1,9 +1,24 @@
-use Rattle.std.proofs.Common.{◌∙◌, sym}
-use Rattle.tr_answers.proofs.Words.{all_fit, none_fits}
+use Rattle.std.proofs.Common.{◌∙◌, ap₂, arith, sym}
+use Rattle.tr_answers.specs.Fits.{fits}
+use Rattle.tr_answers.proofs.Words.{expected_goes_on, last_word, misfit, next_words}
 use Rattle.tr_answers.proofs.expected.fit_by_words.Goals as goal
 
-pub returns-then-has_as_many_words : goal.returns-then-has_as_many_words
-returns-then-has_as_many_words c = all_fit c.args.expected.now c.args.text.now c.fit_in_turn.result (sym c.has_as_many_words.ensures ∙ c.if-has_as_many_words.true) c.fit_in_turn.ensures
+pub returns-then-not-fits_word : goal.returns-then-not-fits_word
+returns-then-not-fits_word c =
+    sym (c.words.invariant ∙ misfit c.words.expected.now c.words.text.now c.first_end-expected_end.result c.first_end-end.result c.first_end-expected_end.ensures.end c.first_end-end.ensures.end (sym c.fits_word.ensures ∙ c.if-not-fits_word.true))
 
-pub returns-else-has_as_many_words : goal.returns-else-has_as_many_words
-returns-else-has_as_many_words c = c.if-has_as_many_words.false ∙ none_fits c.args.expected.now c.args.text.now (sym c.has_as_many_words.ensures ∙ c.if-has_as_many_words.false)
+pub returns-then-expected_end-expected : goal.returns-then-expected_end-expected
+returns-then-expected_end-expected c =
+    last_word c.words.expected.now c.words.text.now c.first_end-expected_end.result c.first_end-end.result c.first_end-expected_end.ensures.end c.first_end-end.ensures.end (sym c.fits_word.ensures ∙ c.if-not-fits_word.false) c.if-expected_end-expected.true c.first_end-end.ensures.within
+    ∙ sym c.words.invariant
+
+pub returns-then-end-text : goal.returns-then-end-text
+returns-then-end-text c =
+    sym (c.words.invariant ∙ expected_goes_on c.words.expected.now c.words.text.now c.first_end-expected_end.result c.first_end-end.result c.first_end-expected_end.ensures.end c.first_end-end.ensures.end (sym c.fits_word.ensures ∙ c.if-not-fits_word.false)
+    (omega (arith, c.first_end-expected_end.ensures.within, c.if-expected_end-expected.false)) c.if-end-text.true)
+
+pub words-preserved : goal.words-preserved
+words-preserved c =
+    let next = next_words c.words.expected.now c.words.text.now c.first_end-expected_end.result c.first_end-end.result c.first_end-expected_end.ensures.end c.first_end-end.ensures.end (sym c.fits_word.ensures ∙ c.if-not-fits_word.false)
+    (omega (arith, c.first_end-expected_end.ensures.within, c.if-expected_end-expected.false)) (omega (arith, c.first_end-end.ensures.within, c.if-end-text.false)) in
+    c.words.invariant ∙ (next ∙ sym (ap₂ fits c.after-expected.ensures c.after-text.ensures))
