@@ -7,7 +7,7 @@ mod timing;
 
 use std::{env, io};
 use texts::{long_text, short_text};
-use timing::{Timing, calls_of, quickest, time_read, time_serial};
+use timing::{Timing, calls_of, quickest, time_parse, time_read, time_serial};
 
 fn main(rt: HostRuntime) -> io::Result<()> {
     for word in env::args(&rt)?.skip(1) {
@@ -23,6 +23,12 @@ fn measure(rt: &HostRuntime) -> io::Result<()> {
     let short = short_text(rt.alloc())?;
     println!(rt;
         "work                     bytes in  bytes out     calls        ms    MB in/s  M calls/s"
+    )?;
+    print(
+        rt,
+        "parse and drop alone",
+        &long,
+        quickest(|| time_parse(rt, &long))?,
     )?;
     print(rt, "read", &long, quickest(|| time_read(rt, &long))?)?;
     print(

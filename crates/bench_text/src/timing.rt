@@ -2,7 +2,7 @@ use crate::counts::Count;
 use std::io;
 use std::rt::Clock;
 use std::time::Instant;
-use tr_scenario::{FromReader, Job, ScenarioFault, ToWriter, read, serial};
+use tr_scenario::{FromReader, Job, ScenarioFault, ToWriter, json, read, serial};
 
 /// How many rounds are timed; the quickest counts.
 const ROUNDS: usize = 50;
@@ -32,6 +32,18 @@ pub fn calls_of(rt: &HostRuntime, text: &str) -> io::Result<u32> {
         calls = calls.wrapping_add(step.times);
     }
     Ok(calls)
+}
+
+/// Parses a scenario in memory, and drops its value.
+pub fn time_parse(rt: &HostRuntime, text: &str) -> io::Result<Timing> {
+    let start = Instant::now(rt)?;
+    let value = no_fault(json(rt.alloc(), text.as_bytes()))?;
+    drop(value);
+    let seconds = start.elapsed(rt)?.as_secs_f64();
+    Ok(Timing {
+        seconds,
+        written: 0,
+    })
 }
 
 /// Reads a scenario from memory.
