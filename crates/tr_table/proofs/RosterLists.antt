@@ -1,11 +1,15 @@
 -- The roster that a list of ids and a list of rosters beside it have for a group.
-use Rattle.std.proofs.Common.{◌≡◌, ◌==◌, ◌<◌, ◌≤◌, ◌∙◌, ◌⊎◌, inl, inr, ℕ, zero, suc, List, [], ◌∷◌, ◌++◌, Bool, true, false, Option, Some, None, cond, if◌then◌else◌, get_or, length, nat_eq, position, remove, set, arith, ap, refl, sym}
+use Rattle.std.proofs.Common.{◌≡◌, ◌==◌, ◌+◌, ◌-◌, ◌<◌, ◌≤◌, ◌∙◌, ◌⊎◌, inl, inr, ℕ, zero, suc, List, [], ◌∷◌, ◌++◌, Bool, true, false, Option, Some, None, cond, if◌then◌else◌, get_or, length, nat_eq, position, remove, set, arith, ap, refl, sym}
 use Rattle.std.specs.Prelude.{unwrap_or}
 use Rattle.std.specs.List.{list_any, zip}
 use Rattle.std.specs.Map.{lookup}
 use Rattle.std.proofs.lemmas.Bool.{cases_eq, eq-eqb, eqb-false, eqb-true, ne_eqb}
 use Rattle.tr_model.specs.Journals.{occurs}
-use Rattle.tr_table.specs.Rosters.{RosterView, no_one, roster_in, unless_empty}
+use Rattle.tr_tracee.specs.declared.thread.Thread.{Thread}
+use Rattle.tr_tracee.specs.Lives.{is_dead, is_live}
+use Rattle.tr_tracee.specs.Threads.{is_traced}
+use Rattle.tr_table.specs.Held.{bool_to_nat}
+use Rattle.tr_table.specs.Rosters.{Alike, RosterView, no_one, rewritten, roster_in, unless_empty}
 use Rattle.tr_table.specs.Pages.{counted_from_one}
 use Rattle.tr_table.proofs.Numbered.{absent, bump, number, number_is}
 
@@ -174,3 +178,24 @@ none_left r e = ap (λ (b : Bool). if b then no_one else r) (sym e)
 
 pub some_left : (r : RosterView) → (length r.ids == 0) ≡ false → r ≡ unless_empty r
 some_left r e = ap (λ (b : Bool). if b then no_one else r) (sym e)
+
+-- a thread that counts as before leaves its roster as it is
+
+same_count : (n : ℕ) (a b : Bool) → a ≡ b → n ≡ n + bool_to_nat b - bool_to_nat a
+same_count n a b e = let m = ap bool_to_nat e in omega (arith, m)
+
+pub unwritten : (t u : Thread) → Alike t u → (g h : ℕ) (rs : List (ℕ × RosterView)) → roster_in rs h ≡ (if g == h then rewritten t u (roster_in rs h) else roster_in rs h)
+unwritten t u a g h rs = go (g == h)
+  where
+    r : RosterView
+    r = roster_in rs h
+
+    go : (b : Bool) → r ≡ (if b then rewritten t u r else r)
+    go true = λ i. record {
+      ids = r.ids;
+      live = same_count r.live (is_live t.life) (is_live u.life) a.live i;
+      dead = same_count r.dead (is_dead t.life) (is_dead u.life) a.dead i;
+      traced = same_count r.traced (is_traced t) (is_traced u) a.traced i;
+      marked = same_count r.marked t.stop_mark u.stop_mark a.marked i;
+    }
+    go false = refl

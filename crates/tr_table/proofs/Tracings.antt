@@ -1,5 +1,5 @@
 -- What is kept for waits, as one: a thread of the list, what it becomes, and one that goes or comes.
-use Rattle.std.proofs.Common.{◌≡◌, ◌+◌, ◌<◌, ◌≤◌, ◌++◌, ◌∷◌, [], ◌∙◌, ℕ, List, false, Option, None, filter, if◌then◌else◌, is_some, length, length-append, set, get_or, remove, take, arith, ap, subst, sym}
+use Rattle.std.proofs.Common.{◌≡◌, ◌+◌, ◌<◌, ◌≤◌, ◌++◌, ◌∷◌, [], ◌∙◌, ℕ, List, false, Option, None, filter, if◌then◌else◌, is_some, length, length-append, set, get_or, remove, take, arith, ap, refl, subst, sym}
 use Rattle.std.specs.List.Sorted.{IsPartitionedBy}
 use Rattle.std.proofs.lemmas.List.{length-set}
 use Rattle.std.proofs.lemmas.List.Edits.{length-remove}
@@ -7,7 +7,7 @@ use Rattle.tr_tracee.specs.declared.thread.Thread.{Thread}
 use Rattle.tr_model.specs.Journals.{occurs}
 use Rattle.tr_model.specs.Tables.{ids_of}
 use Rattle.tr_table.specs.Held.{bool_to_nat}
-use Rattle.tr_table.specs.Tracing.{HasPlace, HasPlaces, IsTracing, MultisetView, TracingView, is_before, is_number, is_reporting, relisted, tracer, waiter}
+use Rattle.tr_table.specs.Tracing.{HasPlace, HasPlaces, IsTracing, IsUnkept, MultisetView, TracingView, is_before, is_number, is_reporting, relisted, tracer, waiter}
 use Rattle.tr_table.specs.Waits.{is_untraced_death}
 use Rattle.tr_model.proofs.Costs.{filter-le-length}
 use Rattle.tr_table.proofs.Counting.{counted_added, counted_gone, counted_written, one_counted}
@@ -85,6 +85,12 @@ module _ (ts : List Thread) (ids : List ℕ) (v : TracingView) (h : IsTracing ts
         reporting = list ∙ list_written is_reporting ts i x y l same;
         untraced_deaths = omega (arith, n, h.untraced_deaths, counted_written is_untraced_death ts i x y l, ap (λ (t : Thread). bool_to_nat (is_untraced_death t)) at);
       }
+
+  -- and one of which nothing is kept, before and after, leaves it as it is
+  pub traced_still : (y : Thread) → y.id ≡ (get_or ts i x).id → IsUnkept x → IsUnkept y → IsTracing (set ts i y) v
+  traced_still y same before after =
+      let p : Recounts v.tracers v.tracers (tracer x) (tracer y) = rw (before.tracer, after.tracer) (record { counted = λ m. refl; sized = refl }) in
+      traced_written y v None None same (sym before.waiter) (sym after.waiter) p (record { counted = λ m. refl; sized = refl }) refl (omega (arith, ap bool_to_nat before.untraced_death, ap bool_to_nat after.untraced_death))
 
   pub traced_gone : (id : ℕ) (w : TracingView) (was : Option ℕ) → was ≡ waiter x → Recounts v.tracers w.tracers (tracer x) None → Recounts v.waiters w.waiters was None
       → w.reporting ≡ relisted (is_some was) false (length (filter (is_before ids i) v.reporting)) id v.reporting → w.untraced_deaths + bool_to_nat (is_untraced_death x) ≡ v.untraced_deaths → IsTracing (remove ts i) w

@@ -1,5 +1,5 @@
 -- What is kept of each group's threads beside the list of all: their ids and how many of them are in a standing.
-use Rattle.std.specs.Prelude.{ℕ, ◌+◌, ◌-◌, ◌≤◌, ◌==◌, List, [], ◌∷◌, ◌++◌, filter, length, nat_eq, not, if◌then◌else◌, unwrap_or}
+use Rattle.std.specs.Prelude.{◌≡◌, ℕ, ◌+◌, ◌-◌, ◌≤◌, ◌==◌, List, [], ◌∷◌, ◌++◌, filter, length, nat_eq, not, if◌then◌else◌, unwrap_or}
 use Rattle.std.specs.Map.{lookup}
 use Rattle.tr_tracee.specs.declared.thread.Thread.{Thread}
 use Rattle.tr_tracee.specs.Lives.{is_dead, is_live}
@@ -72,6 +72,13 @@ pub record Counts (t : Thread) (r : RosterView) : Type 0 where
   pub dead : bool_to_nat (is_dead t.life) ≤ r.dead
   pub traced : bool_to_nat (is_traced t) ≤ r.traced
   pub marked : bool_to_nat t.stop_mark ≤ r.marked
+
+-- the two count as the same
+pub record Alike (t u : Thread) : Type 0 where
+  pub live : is_live t.life ≡ is_live u.life
+  pub dead : is_dead t.life ≡ is_dead u.life
+  pub traced : is_traced t ≡ is_traced u
+  pub marked : t.stop_mark ≡ u.stop_mark
 
 -- nothing is kept of a group without threads
 abbrev pub unless_empty : RosterView → RosterView

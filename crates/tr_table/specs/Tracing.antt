@@ -35,6 +35,12 @@ waiter t = if is_some t.report then tracer_of t.trace else None
 abbrev pub is_reporting : Thread → Bool
 is_reporting t = is_some (waiter t)
 
+-- nothing is kept of the thread
+pub record IsUnkept (t : Thread) : Type 0 where
+  pub tracer : tracer t ≡ None
+  pub waiter : waiter t ≡ None
+  pub untraced_death : is_untraced_death t ≡ false
+
 -- the tracers of all tracees, those of all that have a report, and the ids of these, with so many places; and for the
 -- starter how many deaths are untraced
 pub record TracingView : Type 0 where

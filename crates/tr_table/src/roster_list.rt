@@ -1,5 +1,5 @@
-ghost use Rattle.std.specs.Prelude.{◌≡◌, ℕ, ◌<◌, ◌≤◌, ◌==◌, [], filter, MatchOption, OnErr, OnOk, if◌then◌else◌, length, not, vec_capacity, vec_len};
-ghost use Rattle.tr_table.specs.Rosters.{Counts, IsSmall, no_one, rewritten, roster_in, roster_of, unless_empty, with_last, without};
+ghost use Rattle.std.specs.Prelude.{◌≡◌, ℕ, ◌<◌, ◌≤◌, ◌==◌, [], filter, MatchOption, OnErr, OnOk, if◌then◌else◌, length, not, true, vec_capacity, vec_len};
+ghost use Rattle.tr_table.specs.Rosters.{Alike, Counts, IsSmall, no_one, rewritten, roster_in, roster_of, unless_empty, with_last, without};
 ghost use Rattle.tr_tracee.specs.Threads.{in_group};
 
 use crate::counts::recounted;
@@ -98,6 +98,17 @@ impl Roster {
         self.traced = recounted(self.traced, before.is_traced(), after.is_traced());
         self.marked = recounted(self.marked, before.stop_mark, after.stop_mark);
     }
+}
+
+/// Whether two records of a thread count as the same.
+#[inline(always)]
+fn count_alike(before: &Thread, after: &Thread) -> bool
+    ensures { result ≡ true → Alike before.now after.now }
+{
+    before.stop_mark == after.stop_mark
+        && before.is_traced() == after.is_traced()
+        && before.life.is_live() == after.life.is_live()
+        && before.life.is_dead() == after.life.is_dead()
 }
 
 /// Makes a place for one more roster; where there is none, for no more, since a roster is large and many tables have one group.
@@ -281,6 +292,7 @@ impl Rosters {
     }
 
     /// A thread of a group has become another one of it.
+    #[inline(always)]
     pub(crate) fn rewrite(&mut self, before: &Thread, after: &Thread)
         requires there { 0 < length (roster_in self.old before.now.group).ids }
         requires small { IsSmall (roster_in self.old before.now.group) }
@@ -290,6 +302,9 @@ impl Rosters {
             ≡ (if before.now.group == g then rewritten before.now after.now
             (roster_in self.old g) else roster_in self.old g) }
     {
+        if count_alike(before, after) {
+            return;
+        }
         let Some(place) = self.index.place(before.group) else {
             return;
         };

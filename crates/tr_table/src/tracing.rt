@@ -1,10 +1,10 @@
-ghost use Rattle.std.specs.Prelude.{List, ◌≡◌, ◌==◌, ℕ, ◌+◌, ◌<◌, ◌≤◌, ◌++◌, ◌∷◌, [], OnOk, filter, get_or, length, not, remove, slice_set, vec_capacity, vec_len};
+ghost use Rattle.std.specs.Prelude.{List, ◌≡◌, ◌==◌, ℕ, ◌+◌, ◌<◌, ◌≤◌, ◌++◌, ◌∷◌, [], OnOk, false, filter, get_or, length, not, remove, slice_set, vec_capacity, vec_len};
 ghost use Rattle.std.specs.List.Sorted.{IsPartitionedBy};
 ghost use Rattle.tr_tracee.specs.declared.thread.Thread.{Thread};
 ghost use Rattle.tr_model.specs.Journals.{occurs};
 ghost use Rattle.tr_model.specs.Tables.{ids_of};
 ghost use Rattle.tr_table.specs.Held.{bool_to_nat};
-ghost use Rattle.tr_table.specs.Tracing.{HasPlace, HasPlaces, IsTracing, is_before, relisted, tracer, waiter};
+ghost use Rattle.tr_table.specs.Tracing.{HasPlace, HasPlaces, IsTracing, IsUnkept, is_before, relisted, tracer, waiter};
 ghost use Rattle.tr_table.specs.Waits.{is_untraced_death};
 
 use crate::counts::recounted;
@@ -56,6 +56,13 @@ fn is_untraced_death(thread: &Thread) -> bool
     ensures { result ≡ is_untraced_death thread.now }
 {
     thread.life.is_dead() && !thread.is_traced() && thread.report.is_some()
+}
+
+/// Whether something may be kept of a thread: somebody traces it, or it is dead.
+fn may_be_kept(thread: &Thread) -> bool
+    ensures { result ≡ false → IsUnkept thread.now }
+{
+    thread.is_traced() || thread.life.is_dead()
 }
 
 /// Whether the record of an id stands before a place.
@@ -185,6 +192,9 @@ impl Tracing {
         ensures places { (n : ℕ) → HasPlaces n self.old → HasPlaces n self.new }
     {
         let former = &threads[place];
+        if !may_be_kept(former) && !may_be_kept(thread) {
+            return;
+        }
         let (was, is) = (waiter_of(former), waiter_of(thread));
         relist(
             &mut self.reporting,

@@ -1,7 +1,10 @@
 use Rattle.std.proofs.Common.{◌≡◌, ◌==◌, ◌∙◌, ℕ, List, arith, ap, if◌then◌else◌, length}
 use Rattle.tr_table.specs.Rosters.{RosterView, no_one, rewritten, roster_in}
-use Rattle.tr_table.proofs.RosterLists.{at_itself, is_absent, is_found, is_written}
+use Rattle.tr_table.proofs.RosterLists.{at_itself, is_absent, is_found, is_written, unwritten}
 use Rattle.tr_table.proofs.roster_list.Rosters.rewrite.Goals as goal
+
+pub returns-then-count_alike : goal.returns-then-count_alike
+returns-then-count_alike c = λ h. unwritten c.args.before.now c.args.after.now (c.count_alike.ensures c.if-count_alike.true) c.args.before.now.group h c.args.self.now
 
 pub returns-in_default : goal.returns-in_default
 returns-in_default c =

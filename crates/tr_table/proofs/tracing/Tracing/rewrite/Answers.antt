@@ -1,9 +1,17 @@
-use Rattle.std.proofs.Common.{◌≡◌, ◌+◌, ◌≤◌, ◌∙◌, Bool, filter, is_some, length, ap, arith, subst, sym, vec_capacity}
+use Rattle.std.proofs.Common.{◌≡◌, ◌+◌, ◌≤◌, ◌∙◌, Bool, filter, is_some, length, ap, arith, rules, subst, sym, vec_capacity}
 use Rattle.tr_table.specs.Held.{bool_to_nat}
-use Rattle.tr_table.specs.Tracing.{HasPlaces, IsTracing, TracingView, is_before, relisted, tracer}
+use Rattle.tr_table.specs.Tracing.{HasPlaces, IsTracing, IsUnkept, TracingView, is_before, relisted, tracer}
 use Rattle.tr_table.specs.Waits.{is_untraced_death}
-use Rattle.tr_table.proofs.Tracings.{Recounts, counts_death, death_places, may_trace, may_wait, parted, place, there, traced_written}
+use Rattle.tr_table.proofs.Tracings.{Recounts, counts_death, death_places, may_trace, may_wait, parted, place, there, traced_still, traced_written}
 use Rattle.tr_table.proofs.tracing.Tracing.rewrite.Goals as goal
+
+pub returns-then-not-may_be_kept-2-clause-kept : goal.returns-then-not-may_be_kept-2-clause-kept
+returns-then-not-may_be_kept-2-clause-kept c =
+    let ts = c.args.threads.now in
+    let x = c.index-threads-place.result in
+    let before : IsUnkept x = search rules in
+    let after : IsUnkept c.args.thread.now = search rules in
+    traced_still ts c.args.index.now c.args.self.now c.requires.kept c.requires.room c.requires.indexed c.requires.once c.args.place x c.requires.place c.index-threads-place.is c.args.thread.now (c.requires.same x) before after
 
 pub relist-requires-clause-parted : goal.relist-requires-clause-parted
 relist-requires-clause-parted c =
