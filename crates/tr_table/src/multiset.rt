@@ -47,7 +47,8 @@ impl Multiset {
     pub(crate) fn contains(&self, n: u32) -> bool
         ensures { result ≡ not (occurs n self.now.numbers == 0) }
     {
-        self.numbers.binary_search(&n).is_ok()
+        // Mostly there is one number alone.
+        self.numbers.first() == Some(&n) || self.numbers.binary_search(&n).is_ok()
     }
 
     /// Whether no number is counted.

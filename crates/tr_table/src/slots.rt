@@ -22,9 +22,28 @@ pub(crate) fn place_of(slots: &[Slot], n: u64) -> Option<usize>
         (λ i. (s : Slot) → (get_or slots.now i s).waiting.instance.n ≡ n) }
     ensures none { IfNone result (instance_in (all_in slots.now) n ≡ None) }
 {
+    if let Some(place) = place_in_row(slots, n) {
+        return Some(place);
+    }
     slots
         .binary_search_by_key(&n, |s| s.waiting.instance.n)
         .ok()
+}
+
+/// The same, where the numbers from the first on stand without a gap; else mostly none.
+#[inline(always)]
+fn place_in_row(slots: &[Slot], n: u64) -> Option<usize>
+    ensures within { IfSome result (λ i. i < length slots.now) }
+    ensures found { IfSome result
+        (λ i. (s : Slot) → (get_or slots.now i s).waiting.instance.n ≡ n) }
+{
+    let first = slots.first()?.waiting.instance.n;
+    let place = n.checked_sub(first)? as usize;
+    if place < slots.len() && slots[place].waiting.instance.n == n {
+        Some(place)
+    } else {
+        None
+    }
 }
 
 /// Drops the slots after the last instance that still waits.
