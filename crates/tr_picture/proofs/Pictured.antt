@@ -9,6 +9,9 @@ use Rattle.tr_model.specs.Journals.{totals}
 use Rattle.tr_model.specs.Runs.{Answer, Call}
 use Rattle.tr_model.specs.Tables.{Table}
 use Rattle.tr_kernel.specs.declared.answers.Answer as kernel
+use Rattle.tr_kernel.specs.declared.answers.Answer.TheVariants as answer
+use Rattle.tr_kernel.specs.Answers.{is_entered}
+use Rattle.tr_kernel.specs.Logs.{Log, logged}
 use Rattle.tr_kernel.specs.States.{State}
 use Rattle.tr_kernel.specs.States.{opened as opened_kernel}
 use Rattle.tr_workers.specs.Follows.{heard}
@@ -23,24 +26,25 @@ use Rattle.tr_scenario.specs.Serial.{job_calls}
 use Rattle.tr_scenario.specs.RunTexts.{call_text, state_after}
 use Rattle.tr_picture.specs.declared.layouts.Layout.{Layout}
 use Rattle.tr_picture.specs.declared.pictures.Facts.{Facts}
+use Rattle.tr_picture.specs.declared.reports.LaneReport.{LaneReport}
 use Rattle.tr_picture.specs.declared.styles.Style.TheVariants as style
 use Rattle.tr_picture.specs.Actors.{job_actors}
-use Rattle.tr_picture.specs.Drawn.{Drawn, begun, blank, closed, counted, drawn, shown, times_note, with_answer, with_answered, with_call, with_groups, with_new_row, with_row, with_start_row}
+use Rattle.tr_picture.specs.Drawn.{Drawn, begun, blank, closed, counted, drawn, reports_at, shown, times_note, with_answer, with_answered, with_call, with_groups, with_new_row, with_row, with_start_row}
 use Rattle.tr_picture.specs.Elements.{Elements, Open, all, escaped, none as no_elements, printed, rect, token_pieces, words}
 use Rattle.tr_picture.specs.Cells.{cells}
 use Rattle.tr_picture.specs.Layouts.{lanes_left}
-use Rattle.tr_picture.specs.Rows.{moved_down, row_inside}
+use Rattle.tr_picture.specs.Rows.{is_entry, moved_down, row_inside}
 use Rattle.tr_picture.specs.Legends.{legend}
 use Rattle.tr_picture.specs.Pictures.{captions, description, facts, foot, head, hidden_note, hidden_words, life_lines, limits, lost_note, picture_description, picture, picture_from, picture_of, picture_title, reading, rows_end, sheet, summary, svg_attributes, width}
 use Rattle.tr_picture.proofs.Printed.{pushed_both, pushed_tag}
 use Rattle.tr_picture.proofs.Pushed.{five_parts, pushed_four}
 
 -- a call that was made
-pub drawn_is : (d : Drawn) (old new : State) (c : Call) (x : kernel.Answer) (line : List ℕ) (r : ℕ) → Makes old new (c ∷ []) → Answers old c x → line ≡ call_text (so_far old) c → r ≡ old.table.raised →
-    with_call d line (length new.journal) r new.table c (heard x) ≡ drawn d (so_far old) c
+pub drawn_is : (d : Drawn) (old new : State) (c : Call) (x : kernel.Answer) (line : List ℕ) (w : Log) (rs : List LaneReport) → Makes old new (c ∷ []) → Answers old c x → line ≡ call_text (so_far old) c →
+    w ≡ logged (is_entry (heard x)) old.table c → rs ≡ reports_at old.table d → with_call d line (length new.journal) w rs new.table c (heard x) ≡ drawn d (so_far old) c
 unfolding drawn
-drawn_is d old new c x line r m a is raised =
-    (λ j. with_call d (is j) (length new.journal) (raised j) new.table c (heard x))
+drawn_is d old new c x line w rs m a is done before =
+    (λ j. with_call d (is j) (length new.journal) (done j) (before j) new.table c (heard x))
     ∙ ap (λ s. with_answered d (so_far old) s c (heard x ∷ [])) m.state
     ∙ ap (λ xs. with_answered d (so_far old) (state_after (so_far old) (c ∷ [])) c xs) (sym a.answers)
 
@@ -104,16 +108,16 @@ row_is_lost d inside full empty once some =
     unlike [] h = absurd (omega (arith, h))
     unlike (x ∷ xs) h = refl
 
-pub shown_is : {X : Type 0} (d v after : Drawn) (line cleared pushed bytes : List ℕ) (n k raised : ℕ) (T U : Table) (c : Call) (x : Answer) (r : Result X AllocError) → v ≡ d → cleared ≡ [] → n ≡ k → U ≡ T →
-    pushed ≡ cleared ++ printed (row_inside v.layout line n raised U c x) → bytes ≡ pushed → OnOk r (after ≡ with_row d bytes) → OnOk r (after ≡ shown d line k raised T c x)
-shown_is d v after line cleared pushed bytes n k raised T U c x (Ok y) same none is_n is_T h is_b row =
-    let inside : bytes ≡ printed (row_inside d.layout line k raised T c x) = is_b ∙ h ∙ (λ i. none i ++ printed (row_inside (same i).layout line (is_n i) raised (is_T i) c x)) in
+pub shown_is : {X : Type 0} (d v after : Drawn) (line cleared pushed bytes : List ℕ) (n k : ℕ) (w : Log) (rs : List LaneReport) (T U : Table) (c : Call) (x : Answer) (r : Result X AllocError) → v ≡ d → cleared ≡ [] → n ≡ k → U ≡ T →
+    pushed ≡ cleared ++ printed (row_inside v.layout line n w rs U c x) → bytes ≡ pushed → OnOk r (after ≡ with_row d bytes) → OnOk r (after ≡ shown d line k w rs T c x)
+shown_is d v after line cleared pushed bytes n k w rs T U c x (Ok y) same none is_n is_T h is_b row =
+    let inside : bytes ≡ printed (row_inside d.layout line k w rs T c x) = is_b ∙ h ∙ (λ i. none i ++ printed (row_inside (same i).layout line (is_n i) w rs (is_T i) c x)) in
     row ∙ ap (λ b. with_row d b) inside
-shown_is d v after line cleared pushed bytes n k raised T U c x (Err e) same none is_n is_T h is_b row = tt
+shown_is d v after line cleared pushed bytes n k w rs T U c x (Err e) same none is_n is_T h is_b row = tt
 
-pub called_is : (d h v after : Drawn) (line : List ℕ) (k m raised : ℕ) (T : Table) (c : Call) (x : Answer) → h ≡ with_answer d x → after ≡ shown h line k raised T c x → v ≡ after → m ≡ v.calls + 1 → record v { calls = m } ≡ with_call d line k raised T c x
-called_is d h v after line k m raised T c x heard show same more =
-    ap (λ (j : ℕ). record v { calls = j }) more ∙ ap counted (same ∙ show ∙ ap (λ (y : Drawn). shown y line k raised T c x) heard)
+pub called_is : (d h v after : Drawn) (line : List ℕ) (k m : ℕ) (w : Log) (rs : List LaneReport) (T : Table) (c : Call) (x : Answer) → h ≡ with_answer d x → after ≡ shown h line k w rs T c x → v ≡ after → m ≡ v.calls + 1 → record v { calls = m } ≡ with_call d line k w rs T c x
+called_is d h v after line k m w rs T c x heard show same more =
+    ap (λ (j : ℕ). record v { calls = j }) more ∙ ap counted (same ∙ show ∙ ap (λ (y : Drawn). shown y line k w rs T c x) heard)
 
 pub finished_is : (page new : List ℕ) (k : State) (x y d : Drawn) (n l m : ℕ) (t : Totals) → x ≡ d → y ≡ closed x → page ≡ [] →
     n ≡ length k.journal → l ≡ k.table.limit → m ≡ k.table.entries → t ≡ totals (table_of k.start) k.journal k.table →
@@ -155,10 +159,16 @@ hidden_told old new b1 b2 b3 y L (Ok x) e1 e2 e3 p =
     p ∙ (λ i. old ++ printed (words style.Refused 16 y (codes "without a lane: " ∷ e1 i ∷ codes " threads, " ∷ e2 i ∷ codes " groups, " ∷ e3 i ∷ codes " actors" ∷ [])))
 hidden_told old new b1 b2 b3 y L (Err e) e1 e2 e3 p = tt
 
+-- an answer of the kernel tells of an entry where the run's does
+pub entered_is : (x : kernel.Answer) → is_entered x ≡ is_entry (heard x)
+entered_is (answer.Entered r) = refl
+entered_is (answer.Read r) = refl
+entered_is (answer.Refused why) = refl
+
 -- a call that was made and drawn
-pub made_is : (d v e : Drawn) (old new : State) (c : Call) (x : kernel.Answer) (cleared page bytes : List ℕ) (r : ℕ) (T : Table) → v ≡ d → cleared ≡ [] → page ≡ cleared ++ call_text (so_far old) c → bytes ≡ page → T ≡ old.table → r ≡ T.raised →
-    Makes old new (c ∷ []) → Answers old c x → e ≡ with_call v bytes (length new.journal) r new.table c (heard x) → e ≡ drawn d (so_far old) c
-made_is d v e old new c x cleared page bytes r T is none text is_b is_T is_r m a h =
+pub made_is : (d v e : Drawn) (old new : State) (c : Call) (x : kernel.Answer) (cleared page bytes : List ℕ) (w : Log) (rs : List LaneReport) (T : Table) → v ≡ d → cleared ≡ [] → page ≡ cleared ++ call_text (so_far old) c → bytes ≡ page → T ≡ old.table → rs ≡ reports_at T v → w ≡ logged (is_entry (heard x)) old.table c →
+    Makes old new (c ∷ []) → Answers old c x → e ≡ with_call v bytes (length new.journal) w rs new.table c (heard x) → e ≡ drawn d (so_far old) c
+made_is d v e old new c x cleared page bytes w rs T is none text is_b is_T before done m a h =
     h
-    ∙ ap (λ (y : Drawn). with_call y bytes (length new.journal) r new.table c (heard x)) is
-    ∙ drawn_is d old new c x bytes r m a (is_b ∙ text ∙ ap (λ p. p ++ call_text (so_far old) c) none) (is_r ∙ ap (λ (U : Table). U.raised) is_T)
+    ∙ ap (λ (y : Drawn). with_call y bytes (length new.journal) w rs new.table c (heard x)) is
+    ∙ drawn_is d old new c x bytes w rs m a (is_b ∙ text ∙ ap (λ p. p ++ call_text (so_far old) c) none) done (before ∙ (λ i. reports_at (is_T i) (is i)))

@@ -1,10 +1,12 @@
 -- The text of elements, from its parts; and that each tag is closed where it is opened.
-use Rattle.std.proofs.Common.{◌≡◌, ◌∙◌, ℕ, Bool, true, if◌then◌else◌, List, [], ◌∷◌, ◌++◌, ap, sym, refl, append_assoc, append-nil, codes, map, Some, None}
+use Rattle.std.proofs.Common.{◌≡◌, ◌∙◌, ℕ, Bool, true, if◌then◌else◌, List, [], ◌∷◌, ◌++◌, ap, sym, refl, append_assoc, append-nil, codes, decimal, map, Some, None, OnOk, Result, Ok, Err}
+use Rattle.std.specs.declared.alloc.AllocError.{AllocError}
 use Rattle.std.specs.Str.{bytes_eq}
 use Rattle.std.proofs.lemmas.Slice.Eq.{bytes_eq-Decides}
 use Rattle.tr_status.specs.Texts.{texts}
 use Rattle.tr_picture.specs.declared.styles.Style.{Style}
-use Rattle.tr_picture.specs.Elements.{AreBalanced, Attribute, Characters, Close, Elements, Open, Token, both, escaped, none, pieces, printed, reads, tag, text, token_pieces, tokens, words, words_begin}
+use Rattle.tr_picture.specs.Styles.{style_name}
+use Rattle.tr_picture.specs.Elements.{AreBalanced, Attribute, Characters, Close, Elements, Open, Token, both, escaped, none, pieces, printed, reads, rect, tag, text, token_pieces, tokens, words, words_begin}
 
 -- Texts
 
@@ -64,6 +66,12 @@ pushed_tag old first second new n attrs inside h1 h2 h3 =
     ∙ ap (λ p. old ++ (texts begin ++ p)) (sym (texts_append middle end))
     ∙ ap (λ p. old ++ p) (sym (texts_append begin (middle ++ end)))
     ∙ ap (λ ps. old ++ texts (begin ++ ps)) (sym (pieces_append (tokens inside) (Close n ∷ [])))
+
+pub outlined : {X : Type 0} (old new b0 b1 b2 b3 b4 : List ℕ) (s : Style) (x y w h : ℕ) (r : Result X AllocError) → b0 ≡ style_name s → b1 ≡ decimal x → b2 ≡ decimal y → b3 ≡ decimal w → b4 ≡ decimal h →
+    OnOk r (new ≡ old ++ texts (codes "<path class=\"" ∷ b0 ∷ codes "\" d=\"M" ∷ b1 ∷ codes " " ∷ b2 ∷ codes "h" ∷ b3 ∷ codes "v" ∷ b4 ∷ codes "H" ∷ b1 ∷ codes "z\"></path>\n" ∷ [])) → OnOk r (new ≡ old ++ printed (rect s x y w h))
+outlined old new b0 b1 b2 b3 b4 s x y w h (Ok v) e0 e1 e2 e3 e4 p =
+    p ∙ (λ i. old ++ texts (codes "<path class=\"" ∷ e0 i ∷ codes "\" d=\"M" ∷ e1 i ∷ codes " " ∷ e2 i ∷ codes "h" ∷ e3 i ∷ codes "v" ∷ e4 i ∷ codes "H" ∷ e1 i ∷ codes "z\"></path>\n" ∷ []))
+outlined old new b0 b1 b2 b3 b4 s x y w h (Err e) e0 e1 e2 e3 e4 p = tt
 
 -- Balance
 

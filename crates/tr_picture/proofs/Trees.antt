@@ -14,12 +14,13 @@ use Rattle.tr_scenario.specs.RunTexts.{call_text, state_after, unanswered}
 use Rattle.tr_scenario.specs.Serial.{job_calls}
 use Rattle.tr_picture.specs.declared.pictures.Facts.{Facts}
 use Rattle.tr_picture.specs.Actors.{job_actors}
-use Rattle.tr_picture.specs.Drawn.{Drawn, actor_heads, begun, blank, closed, drawn, group_head, placed, start_row, thread_head, times_note, with_answer, with_answered, with_elements, with_group, with_groups, with_row, with_thread, with_threads}
+use Rattle.tr_kernel.specs.Logs.{logged}
+use Rattle.tr_picture.specs.Drawn.{Drawn, actor_heads, begun, blank, closed, drawn, group_head, placed, reports_at, start_row, thread_head, times_note, with_answer, with_answered, with_elements, with_group, with_groups, with_row, with_thread, with_threads}
 use Rattle.tr_picture.specs.Draws.{ArePictures}
 use Rattle.tr_picture.specs.Elements.{Elements, Open, both, none, printed, tag, token_pieces}
 use Rattle.tr_picture.specs.Layouts.{has_lane, lanes_right}
 use Rattle.tr_picture.specs.Pictures.{facts, foot, head, height, picture, picture_of, svg_attributes, width}
-use Rattle.tr_picture.specs.Rows.{moved_down, row_inside}
+use Rattle.tr_picture.specs.Rows.{is_entry, moved_down, row_inside}
 use Rattle.tr_picture.proofs.Printed.{printed_both, pushed_tag}
 use Rattle.tr_picture.proofs.Pushed.{three_parts}
 
@@ -100,7 +101,7 @@ answered_kept : (d : Drawn) (s after : State) (c : Call) (xs : List Answer) → 
 answered_kept d s after c [] a = a
 answered_kept d s after c (x ∷ xs) a =
     let h = with_answer d x in
-    row_kept h _ (of (row_inside h.layout (call_text s c) (length after.journal) s.table.raised after.table c x)) (answer_kept d x a)
+    row_kept h _ (of (row_inside h.layout (call_text s c) (length after.journal) (logged (is_entry x) s.table c) (reports_at s.table d) after.table c x)) (answer_kept d x a)
 
 drawn_kept : (d : Drawn) (s : State) (c : Call) → IsText d.text → IsText (drawn d s c).text
 unfolding drawn

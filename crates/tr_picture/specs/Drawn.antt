@@ -1,22 +1,25 @@
 -- What is drawn of a run so far: the lanes, and a row for each call.
-use Rattle.std.specs.Prelude.{ℕ, ◌+◌, ◌*◌, List, [], ◌∷◌, ◌++◌, true, nat_lt, if◌then◌else◌, codes, decimal, length, take}
+use Rattle.std.specs.Prelude.{ℕ, ◌+◌, ◌*◌, List, [], ◌∷◌, ◌++◌, true, nat_lt, if◌then◌else◌, codes, decimal, length, map, take}
 use Rattle.std.specs.Str.{bytes_eq}
 use Rattle.tr_sigset.specs.declared.sets.SigSet.{SigSet}
 use Rattle.tr_model.specs.declared.replies.Reply.TheVariants.{Cloned}
 use Rattle.tr_model.specs.declared.rows.Target.TheVariants.{Thread}
 use Rattle.tr_model.specs.Runs.{Answer, Call, Entered, State, call}
 use Rattle.tr_model.specs.Tables.{Table}
+use Rattle.tr_kernel.specs.Logs.{Log, logged}
 use Rattle.tr_table.specs.declared.starts.GroupStart.{GroupStart}
 use Rattle.tr_table.specs.declared.starts.Start.{Start}
 use Rattle.tr_table.specs.Starts.{table_of}
 use Rattle.tr_status.specs.Texts.{texts}
 use Rattle.tr_scenario.specs.RunTexts.{call_text, state_after}
 use Rattle.tr_picture.specs.declared.layouts.Layout.{Layout}
+use Rattle.tr_picture.specs.declared.reports.LaneReport.{LaneReport}
 use Rattle.tr_picture.specs.declared.styles.Style.TheVariants as style
 use Rattle.tr_picture.specs.Cells.{cells}
 use Rattle.tr_picture.specs.Elements.{Elements, Open, all, both, none, printed, tag, token_pieces, words}
 use Rattle.tr_picture.specs.Layouts.{has_lane, lanes_left, lanes_right, layout_of, with_group_lane, with_thread_lane}
-use Rattle.tr_picture.specs.Rows.{moved_down, row_inside}
+use Rattle.tr_picture.specs.Reports.{lane_report}
+use Rattle.tr_picture.specs.Rows.{is_entry, moved_down, row_inside}
 
 pub record Drawn : Type 0 where
   pub layout : Layout
@@ -124,17 +127,22 @@ abbrev pub counted : Drawn → Drawn
 counted d = record d { calls = d.calls + 1 }
 
 -- the row of a call
-abbrev pub shown : Drawn → List ℕ → ℕ → ℕ → Table → Call → Answer → Drawn
-shown d line n raised T c x = with_row d (printed (row_inside d.layout line n raised T c x))
+abbrev pub shown : Drawn → List ℕ → ℕ → Log → List LaneReport → Table → Call → Answer → Drawn
+shown d line n done before T c x = with_row d (printed (row_inside d.layout line n done before T c x))
 
--- a call with its line, after which there are so many entries, and before which there were so many reports
-abbrev pub with_call : Drawn → List ℕ → ℕ → ℕ → Table → Call → Answer → Drawn
-with_call d line n raised T c x = counted (shown (with_answer d x) line n raised T c x)
+-- a call with its line, after which there are so many entries, with what it did beside its answer, and the reports that lanes
+-- showed before it
+abbrev pub with_call : Drawn → List ℕ → ℕ → Log → List LaneReport → Table → Call → Answer → Drawn
+with_call d line n done before T c x = counted (shown (with_answer d x) line n done before T c x)
+
+-- the reports that the lanes show at a table
+abbrev pub reports_at : Table → Drawn → List LaneReport
+reports_at T d = map (lane_report T) d.layout.lanes
 
 -- with the answer that there is
 abbrev pub with_answered : Drawn → State → State → Call → List Answer → Drawn
 with_answered d s after c [] = d
-with_answered d s after c (x ∷ xs) = with_call d (call_text s c) (length after.journal) s.table.raised after.table c x
+with_answered d s after c (x ∷ xs) = with_call d (call_text s c) (length after.journal) (logged (is_entry x) s.table c) (reports_at s.table d) after.table c x
 
 -- a call at a run so far
 unfoldable pub drawn : Drawn → State → Call → Drawn

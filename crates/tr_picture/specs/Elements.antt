@@ -7,13 +7,14 @@ use Rattle.tr_picture.specs.Styles.{style_name}
 
 -- Elements
 
--- what an attribute is: a number, a class, words, a move down by a number, or the box of a picture
+-- what an attribute is: a number, a class, words, a move down by a number, the box of a picture, or the path round a rectangle
 pub data Value : Type 0 where
   Number : ℕ → Value
   Class : Style → Value
   Word : List ℕ → Value
   Down : ℕ → Value
   Box : ℕ → ℕ → Value
+  Outline : ℕ → ℕ → ℕ → ℕ → Value
 
 pub record Attribute : Type 0 where
   pub name : List ℕ
@@ -63,6 +64,7 @@ value_pieces (Class s) = style_name s ∷ []
 value_pieces (Word w) = escaped w ∷ []
 value_pieces (Down n) = codes "translate(0 " ∷ decimal n ∷ codes ")" ∷ []
 value_pieces (Box w h) = codes "0 0 " ∷ decimal w ∷ codes " " ∷ decimal h ∷ []
+value_pieces (Outline x y w h) = codes "M" ∷ decimal x ∷ codes " " ∷ decimal y ∷ codes "h" ∷ decimal w ∷ codes "v" ∷ decimal h ∷ codes "H" ∷ decimal x ∷ codes "z" ∷ []
 
 abbrev pub attribute_pieces : List Attribute → List (List ℕ)
 attribute_pieces [] = []
@@ -111,7 +113,7 @@ abbrev pub class_at : Style → Attribute
 class_at s = record { name = codes "class"; value = Class s }
 
 abbrev pub rect : Style → ℕ → ℕ → ℕ → ℕ → Elements
-rect s x y w h = tag (codes "rect") (class_at s ∷ number_at (codes "x") x ∷ number_at (codes "y") y ∷ number_at (codes "width") w ∷ number_at (codes "height") h ∷ []) none none
+rect s x y w h = tag (codes "path") (class_at s ∷ record { name = codes "d"; value = Outline x y w h } ∷ []) none none
 
 abbrev pub line : Style → ℕ → ℕ → ℕ → ℕ → Elements
 line s x y x_end y_end = tag (codes "line") (class_at s ∷ number_at (codes "x1") x ∷ number_at (codes "y1") y ∷ number_at (codes "x2") x_end ∷ number_at (codes "y2") y_end ∷ []) none none

@@ -27,13 +27,17 @@ arrow_meanings =
     (style.Request, codes "request") ∷
     (style.Send, codes "signal sent") ∷
     (style.Takes, codes "wait takes a report") ∷
+    (style.Joins, codes "clone, id taken by execve(2)") ∷
     (style.Refused, codes "refused") ∷ []
 
 -- words in lanes
 abbrev pub word_meanings : List (Style × List ℕ)
 word_meanings =
     (style.Waiting, codes "7 INT +2: waits first, of 3") ∷
+    (style.Waiting, codes "7 flushed +2: so ended, and 2 more did") ∷
     (style.Report, codes "r3: report 3, not taken") ∷
+    (style.Report, codes "r3 withdrawn: no wait took it") ∷
+    (style.Joins, codes "now 10: has taken the id 10") ∷
     (style.Ink, codes "S T N: marks: stop, trap, note") ∷
     (style.Dim, codes ".: no entry; !: refused; x3: 3 calls") ∷ []
 

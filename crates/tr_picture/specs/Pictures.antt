@@ -23,9 +23,9 @@ use Rattle.tr_picture.specs.Styles.{style_sheet}
 
 -- Sizes
 
--- of the lanes, and at least of the legend
+-- of the lanes with words right of the last one, and at least of the legend
 abbrev pub width : Layout → ℕ
-width L = if nat_lt (lanes_right L) 1000 then 1000 else lanes_right L
+width L = if nat_lt (lanes_right L + 84) 1000 then 1000 else lanes_right L + 84
 
 -- where the rows end
 abbrev pub rows_end : ℕ → ℕ
@@ -57,7 +57,7 @@ picture_title calls entries = tag (codes "title") (word_at (codes "id") (codes "
 
 -- how to read the picture
 abbrev pub reading : List ℕ
-reading = codes "Time runs down: a row for each call, with its place in the journal, the call and its answer. Right of them are the lanes of actors, of groups and of their threads: what waits, what each does after the call, who traces it, and the report that no wait has taken. "
+reading = codes "Time runs down: a row for each call, with its place in the journal, the call, its answer, the reports that it raised and how signals ended by it. Right of them are the lanes of actors, of groups and of their threads: what waits, what each does after the call, who traces it, the report that no wait has taken, and one that was withdrawn; arrows between threads are of clones and of ids that execve(2) takes. "
 
 -- that, and the totals
 abbrev pub description : Totals → List (List ℕ)

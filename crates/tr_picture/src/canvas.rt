@@ -2,7 +2,7 @@ ghost use Rattle.std.specs.Prelude.{◌≡◌, ◌≤◌, ◌<◌, ◌+◌, ◌+
 ghost use Rattle.std.specs.Str.{bytes_eq};
 ghost use Rattle.tr_workers.specs.Follows.{heard};
 ghost use Rattle.tr_scenario.specs.RunTexts.{call_of};
-ghost use Rattle.tr_picture.specs.Drawn.{Drawn, actor_head, actor_heads, blank, closed, group_head, placed, shown, thread_head, times_note, with_answer, with_call, with_group, with_groups, with_new_row, with_row, with_start_row, with_thread, with_threads};
+ghost use Rattle.tr_picture.specs.Drawn.{Drawn, actor_head, actor_heads, blank, closed, group_head, placed, reports_at, shown, thread_head, times_note, with_answer, with_call, with_group, with_groups, with_new_row, with_row, with_start_row, with_thread, with_threads};
 ghost use Rattle.tr_picture.specs.declared.styles.Style.TheVariants.{Ink};
 ghost use Rattle.tr_picture.specs.Elements.{printed, words};
 ghost use Rattle.tr_picture.specs.Layouts.{IsLaidOut};
@@ -11,12 +11,13 @@ ghost use Rattle.tr_picture.specs.Rows.{row_inside};
 use crate::cells::push_cells;
 use crate::elements::{push_number, push_words};
 use crate::layouts::Layout;
+use crate::reports::{LaneReport, list_reports};
 use crate::rows::{push_group_start, push_row_inside};
 use crate::styles::Style;
 use itoa::Buffer;
 use std::alloc::{AllocError, Global};
 use std::marker::Model;
-use tr_kernel::{Answer, Kernel};
+use tr_kernel::{Answer, Kernel, StepLog};
 use tr_model::{Event, Reply, Target};
 use tr_scenario::Page;
 use tr_sigset::SigSet;
@@ -301,14 +302,16 @@ impl Canvas {
         &mut self,
         inside: &mut Page,
         line: &[u8],
-        raised: u64,
+        done: &StepLog,
+        before: &[LaneReport],
         kernel: &Kernel,
         actor: u32,
         event: &Event,
         answer: &Answer,
     ) -> Result<(), AllocError>
+        requires { length before.now ≤ 64 }
         ensures { OnOk result (self.new
-            ≡ shown self.old line.now (length kernel.now.journal) raised kernel.now.table
+            ≡ shown self.old line.now (length kernel.now.journal) done.now before.now kernel.now.table
             (call_of actor event.now) (heard answer.now)) }
     {
         if self.is_full() {
@@ -321,7 +324,8 @@ impl Canvas {
             &self.layout,
             line,
             kernel.position(),
-            raised,
+            done,
+            before,
             kernel.table(),
             actor,
             event,
@@ -330,23 +334,38 @@ impl Canvas {
         self.push_row(inside.as_bytes())
     }
 
-    /// Draws a call that was made, with its line. Before it there were so many reports.
+    /// Lists the reports that the lanes show at a table.
+    pub fn list_reports(
+        &self,
+        reports: &mut Vec<LaneReport>,
+        table: &Table,
+    ) -> Result<(), AllocError>
+        requires { reports.old.items ≡ [] }
+        ensures reports { OnOk result (reports.new.items ≡ reports_at table.now.table self.now) }
+        ensures few { OnOk result (length reports.new.items ≤ 64) }
+    {
+        list_reports(reports, table, self.layout.lanes.as_slice())
+    }
+
+    /// Draws a call that was made, with its line, what it did beside its answer, and the reports that lanes showed before it.
     pub fn push_call(
         &mut self,
         inside: &mut Page,
         line: &[u8],
-        raised: u64,
+        done: &StepLog,
+        before: &[LaneReport],
         kernel: &Kernel,
         actor: u32,
         event: &Event,
         answer: &Answer,
     ) -> Result<(), AllocError>
+        requires { length before.now ≤ 64 }
         ensures { OnOk result (self.new
-            ≡ with_call self.old line.now (length kernel.now.journal) raised kernel.now.table
+            ≡ with_call self.old line.now (length kernel.now.journal) done.now before.now kernel.now.table
             (call_of actor event.now) (heard answer.now)) }
     {
         self.hear(answer)?;
-        self.show(inside, line, raised, kernel, actor, event, answer)?;
+        self.show(inside, line, done, before, kernel, actor, event, answer)?;
         self.calls = one_more(self.calls)?;
         Ok(())
     }

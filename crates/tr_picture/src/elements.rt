@@ -62,22 +62,25 @@ pub(crate) fn push_rect(
 ) -> Result<(), AllocError>
     ensures { OnOk result (page.new ≡ page.old ++ printed (rect style x y width height)) }
 {
-    let mut x_digits = Buffer::new();
+    let mut left_digits = Buffer::new();
     let mut y_digits = Buffer::new();
     let mut width_digits = Buffer::new();
     let mut height_digits = Buffer::new();
-    let pieces: [&[u8]; 11] = [
-        b"<rect class=\"",
+    let left = left_digits.format(x).as_bytes();
+    let pieces: [&[u8]; 13] = [
+        b"<path class=\"",
         style.name().as_bytes(),
-        b"\" x=\"",
-        x_digits.format(x).as_bytes(),
-        b"\" y=\"",
+        b"\" d=\"M",
+        left,
+        b" ",
         y_digits.format(y).as_bytes(),
-        b"\" width=\"",
+        b"h",
         width_digits.format(width).as_bytes(),
-        b"\" height=\"",
+        b"v",
         height_digits.format(height).as_bytes(),
-        b"\"></rect>\n",
+        b"H",
+        left,
+        b"z\"></path>\n",
     ];
     push_pieces(page, &pieces)
 }

@@ -91,6 +91,10 @@ fn arrow_meanings() -> &'static [Meaning]
             words: b"wait takes a report",
         },
         Meaning {
+            style: Style::Joins,
+            words: b"clone, id taken by execve(2)",
+        },
+        Meaning {
             style: Style::Refused,
             words: b"refused",
         },
@@ -107,8 +111,20 @@ fn word_meanings() -> &'static [Meaning]
             words: b"7 INT +2: waits first, of 3",
         },
         Meaning {
+            style: Style::Waiting,
+            words: b"7 flushed +2: so ended, and 2 more did",
+        },
+        Meaning {
             style: Style::Report,
             words: b"r3: report 3, not taken",
+        },
+        Meaning {
+            style: Style::Report,
+            words: b"r3 withdrawn: no wait took it",
+        },
+        Meaning {
+            style: Style::Joins,
+            words: b"now 10: has taken the id 10",
         },
         Meaning {
             style: Style::Ink,

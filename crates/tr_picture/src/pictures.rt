@@ -34,7 +34,7 @@ fn width(layout: &Layout) -> u64
     requires { IsSmall layout.now }
     ensures { result ≡ width layout.now }
 {
-    let right = layout.lanes_right();
+    let right = layout.lanes_right() + 84;
     if right < 1000 { 1000 } else { right }
 }
 
@@ -105,9 +105,11 @@ fn push_description_text(page: &mut Page, totals: &Totals) -> Result<(), AllocEr
     let mut line = LineBuffer::new();
     compose_totals(&mut line, totals);
     let pieces: [&[u8]; 2] = [
-        b"Time runs down: a row for each call, with its place in the journal, the call and its \
-answer. Right of them are the lanes of actors, of groups and of their threads: what waits, what \
-each does after the call, who traces it, and the report that no wait has taken. ",
+        b"Time runs down: a row for each call, with its place in the journal, the call, its answer, \
+the reports that it raised and how signals ended by it. Right of them are the lanes of \
+actors, of groups and of their threads: what waits, what each does after the call, who \
+traces it, the report that no wait has taken, and one that was withdrawn; arrows between \
+threads are of clones and of ids that execve(2) takes. ",
         line.as_bytes(),
     ];
     push_escaped_pieces(page, &pieces)

@@ -1,23 +1,26 @@
-ghost use Rattle.std.specs.Prelude.{◌≡◌, ◌∷◌, ◌++◌, ◌<◌, ◌+◌, ◌*◌, ◌^◌, [], OnOk, codes, length};
+ghost use Rattle.std.specs.Prelude.{◌≡◌, ◌∷◌, ◌++◌, ◌≤◌, ◌<◌, ◌+◌, ◌*◌, ◌^◌, [], OnOk, codes, length};
 ghost use Rattle.tr_status.specs.Texts.{texts};
 ghost use Rattle.tr_workers.specs.Follows.{heard};
 ghost use Rattle.tr_scenario.specs.RunTexts.{call_of};
-ghost use Rattle.tr_picture.specs.declared.styles.Style.TheVariants.{Dim, Ink};
+ghost use Rattle.tr_picture.specs.declared.styles.Style.TheVariants.{Dim, Ink, Report};
 ghost use Rattle.tr_picture.specs.Elements.{Open, printed, token_pieces, words};
 ghost use Rattle.tr_picture.specs.Layouts.{IsSmall};
 ghost use Rattle.tr_scenario.specs.Replies.{reply_text};
-ghost use Rattle.tr_picture.specs.Rows.{answer_words, is_entry, moved_down, position_words, raised_cell, row_inside, row_words, title};
+ghost use Rattle.tr_picture.specs.Rows.{answer_words, below_raised, is_entry, last_report, moved_down, position_words, raised_cell, raised_words, row_inside, row_words, title};
 
 use crate::calls::{aim_of, push_call, push_marks};
 use crate::cells::push_cells;
 use crate::details::push_detail;
 use crate::elements::{push_escaped, push_pieces, push_words};
+use crate::endings::push_endings;
+use crate::joins::{joined, push_joins};
 use crate::layouts::Layout;
+use crate::reports::{LaneReport, push_withdrawals, taken_by};
 use crate::styles::Style;
 use itoa::Buffer;
 use std::alloc::AllocError;
-use tr_kernel::Answer;
-use tr_model::{Event, Reply};
+use tr_kernel::{Answer, StepLog};
+use tr_model::{Event, Raise, Reply};
 use tr_scenario::{LineBuffer, Page, prepend_reply, refusal_text};
 use tr_table::Table;
 
@@ -63,42 +66,78 @@ fn push_answer(page: &mut Page, answer: &Answer) -> Result<(), AllocError>
     }
 }
 
-/// Appends the first and the last of the reports that were raised, if some were.
-fn push_raised(page: &mut Page, before: u64, after: u64) -> Result<(), AllocError>
-    ensures { OnOk result (page.new ≡ page.old ++ printed (raised_cell before after)) }
+/// Appends the first and the last report that were raised.
+fn push_raised_words(page: &mut Page, first: u64, last: u64) -> Result<(), AllocError>
+    ensures { OnOk result (page.new
+        ≡ page.old ++ printed (words Report 312 30 (raised_words first last))) }
 {
-    if before >= after {
-        return Ok(());
+    let mut first_digits = Buffer::new();
+    let first_text = first_digits.format(first).as_bytes();
+    if first >= last {
+        return push_words(page, Style::Report, 312, 30, &[b"raises r", first_text]);
     }
-    let mut first = Buffer::new();
-    let first = first.format(before + 1).as_bytes();
-    if before + 1 >= after {
-        return push_words(page, Style::Report, 312, 30, &[b"raises r", first]);
-    }
-    let mut last = Buffer::new();
-    let pieces: [&[u8]; 4] = [b"raises r", first, b" to r", last.format(after).as_bytes()];
+    let mut last_digits = Buffer::new();
+    let pieces: [&[u8]; 4] = [
+        b"raises r",
+        first_text,
+        b" to r",
+        last_digits.format(last).as_bytes(),
+    ];
     push_words(page, Style::Report, 312, 30, &pieces)
 }
 
-/// Appends the words of a call, after which there are so many entries and reports.
+/// Gives the last of the reports, of which this is the first.
+fn last_report(first: u64, raises: &[Raise]) -> u64
+    ensures { result ≡ last_report first raises.now }
+{
+    let mut last = first;
+    for raise in raises {
+        last = raise.number;
+    }
+    last
+}
+
+/// Appends the first and the last of the reports that were raised, if some were.
+fn push_raised(page: &mut Page, raises: &[Raise]) -> Result<(), AllocError>
+    ensures { OnOk result (page.new ≡ page.old ++ printed (raised_cell raises.now)) }
+{
+    match raises {
+        [] => Ok(()),
+        [first, more @ ..] => {
+            push_raised_words(page, first.number, last_report(first.number, more))
+        }
+    }
+}
+
+/// Gives where the next words below an answer are.
+fn below_raised(raises: &[Raise]) -> u64
+    ensures { result ≡ below_raised raises.now }
+{
+    match raises {
+        [] => 30,
+        _ => 42,
+    }
+}
+
+/// Appends the words of a call, after which there are so many entries, and which did this beside its answer.
 fn push_row_words(
     page: &mut Page,
     entries: u64,
-    raised: u64,
-    raised_after: u64,
+    done: &StepLog,
     actor: u32,
     event: &Event,
     answer: &Answer,
 ) -> Result<(), AllocError>
     ensures { OnOk result (page.new
-        ≡ page.old ++ printed (row_words entries raised raised_after (call_of actor event.now)
-        (heard answer.now))) }
+        ≡ page.old ++ printed (row_words entries done.now (call_of actor event.now) (heard answer.now))) }
 {
     push_position(page, entries, answer)?;
     push_call(page, actor, event)?;
     push_detail(page, event)?;
     push_answer(page, answer)?;
-    push_raised(page, raised, raised_after)?;
+    let raises = done.raises();
+    push_raised(page, raises)?;
+    push_endings(page, below_raised(raises), done.ended())?;
     Ok(())
 }
 
@@ -132,34 +171,36 @@ fn is_entry(answer: &Answer) -> bool
     matches!(answer, Answer::Entered(_))
 }
 
-/// Appends what is in the row of a call that led to this table, in which this line tells of it.
+/// Appends what is in the row of a call that led to this table, in which this line tells of it, and before which lanes showed
+/// these reports.
 pub(crate) fn push_row_inside(
     page: &mut Page,
     layout: &Layout,
     line: &[u8],
     entries: u64,
-    raised: u64,
+    done: &StepLog,
+    before: &[LaneReport],
     table: &Table,
     actor: u32,
     event: &Event,
     answer: &Answer,
 ) -> Result<(), AllocError>
-    requires { IsSmall layout.now }
+    requires small { IsSmall layout.now }
+    requires few { length before.now ≤ 64 }
     ensures { OnOk result (page.new
-        ≡ page.old ++ printed (row_inside layout.now line.now entries raised table.now.table
+        ≡ page.old ++ printed (row_inside layout.now line.now entries done.now before.now table.now.table
         (call_of actor event.now) (heard answer.now))) }
 {
+    let left = layout.lanes_left();
     push_title(page, line)?;
-    push_cells(
-        page,
-        is_entry(answer),
-        layout.lanes_left(),
-        table,
-        layout.lanes.as_slice(),
-    )?;
-    push_row_words(page, entries, raised, table.raised(), actor, event, answer)?;
+    push_cells(page, is_entry(answer), left, table, layout.lanes.as_slice())?;
+    push_withdrawals(page, left, table, taken_by(answer), before)?;
+    push_row_words(page, entries, done, actor, event, answer)?;
     let actor_lane = layout.actor_place(actor);
     let lane = layout.aimed_place(aim_of(event, answer));
     push_marks(page, event, answer, actor_lane, lane)?;
+    let renamed = done.renamed();
+    let other = layout.aimed_place(joined(answer, renamed));
+    push_joins(page, lane, other, renamed)?;
     Ok(())
 }

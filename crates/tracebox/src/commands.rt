@@ -98,7 +98,8 @@ prints the lines of `serial`, and below the first\n  \
 const DRAW: &str = "Runs the scenario on standard input as `serial` does, and draws the run.\n\n\
 Prints one SVG: time runs down, with a row for each call and its answer, a lane for each actor, each\n\
 group and each of its threads. A row shows what each does after the call, what waits for it, who\n\
-traces it, and the report that no wait has taken; an arrow shows whom the call is about. Calls whose\n\
+traces it, and the report that no wait has taken or that was withdrawn; below its answer, how signals\n\
+ended. An arrow shows whom the call is about, its clone, or the id that execve(2) gave. Calls whose\n\
 rows look the same share one row. At most 200 rows are drawn, and lanes of 8 actors, 16 groups and 16\n\
 threads; how many more there are is told below. Nothing is printed of an input that is refused.";
 
