@@ -311,8 +311,8 @@ impl Canvas {
     ) -> Result<(), AllocError>
         requires { length before.now ≤ 64 }
         ensures { OnOk result (self.new
-            ≡ shown self.old line.now (length kernel.now.journal) done.now before.now kernel.now.table
-            (call_of actor event.now) (heard answer.now)) }
+            ≡ shown self.old line.now (length kernel.now.journal) done.now before.now
+            kernel.now.table (call_of actor event.now) (heard answer.now)) }
     {
         if self.is_full() {
             self.lost = one_more(self.lost)?;
@@ -361,8 +361,8 @@ impl Canvas {
     ) -> Result<(), AllocError>
         requires { length before.now ≤ 64 }
         ensures { OnOk result (self.new
-            ≡ with_call self.old line.now (length kernel.now.journal) done.now before.now kernel.now.table
-            (call_of actor event.now) (heard answer.now)) }
+            ≡ with_call self.old line.now (length kernel.now.journal) done.now before.now
+            kernel.now.table (call_of actor event.now) (heard answer.now)) }
     {
         self.hear(answer)?;
         self.show(inside, line, done, before, kernel, actor, event, answer)?;

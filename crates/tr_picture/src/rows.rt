@@ -129,7 +129,8 @@ fn push_row_words(
     answer: &Answer,
 ) -> Result<(), AllocError>
     ensures { OnOk result (page.new
-        ≡ page.old ++ printed (row_words entries done.now (call_of actor event.now) (heard answer.now))) }
+        ≡ page.old ++ printed (row_words entries done.now (call_of actor event.now)
+        (heard answer.now))) }
 {
     push_position(page, entries, answer)?;
     push_call(page, actor, event)?;
@@ -188,8 +189,8 @@ pub(crate) fn push_row_inside(
     requires small { IsSmall layout.now }
     requires few { length before.now ≤ 64 }
     ensures { OnOk result (page.new
-        ≡ page.old ++ printed (row_inside layout.now line.now entries done.now before.now table.now.table
-        (call_of actor event.now) (heard answer.now))) }
+        ≡ page.old ++ printed (row_inside layout.now line.now entries done.now before.now
+        table.now.table (call_of actor event.now) (heard answer.now))) }
 {
     let left = layout.lanes_left();
     push_title(page, line)?;
