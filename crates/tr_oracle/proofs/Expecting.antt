@@ -22,7 +22,7 @@ use Rattle.tr_model.specs.Runs.{Call}
 use Rattle.tr_model.specs.Steps.{Admits, Step, after, is_new, number}
 use Rattle.tr_model.specs.Tables.{Table, thread_of}
 use Rattle.tr_table.specs.Starts.{table_of}
-use Rattle.tr_kernel.specs.Foreseen.{choice_ahead, choice_found, foreseen, foreseen_by, foreseen_entry}
+use Rattle.tr_kernel.specs.Foreseen.{choice_ahead, choice_found, foreseen, foreseen_by}
 use Rattle.tr_kernel.specs.Heard.{HasAnswered, call_of}
 use Rattle.tr_kernel.specs.States.{IsDue, IsEntered, IsHistory, IsMade, IsQuiet, IsRefusal, State}
 use Rattle.tr_kernel.proofs.Checks.{dues, quiets, refusals}
