@@ -31,6 +31,7 @@ foreseen s c = foreseen_by s c (check s.table c.actor c.event)
 abbrev pub choice_with_room : State → Choice → Option Choice
 choice_with_room s x = if nat_le s.table.entries (length s.journal) then None else Some x
 
+-- the choice of what a check finds due
 abbrev pub choice_found : State → Result Checked Refusal → Option Choice
 choice_found s (Ok (Due x)) = choice_with_room s x
 choice_found s _ = None
