@@ -6,8 +6,8 @@ mod texts;
 mod timing;
 
 use std::{env, io};
-use texts::{long_text, short_text};
-use timing::{Timing, calls_of, quickest, time_parse, time_read, time_serial};
+use texts::{crowd_text, long_text, short_text};
+use timing::{Timing, calls_of, quickest, time_parse, time_read, time_serial, time_statuses};
 
 fn main(rt: HostRuntime) -> io::Result<()> {
     for word in env::args(&rt)?.skip(1) {
@@ -42,6 +42,13 @@ fn measure(rt: &HostRuntime) -> io::Result<()> {
         "serial, steps with times",
         &short,
         quickest(|| time_serial(rt, &short))?,
+    )?;
+    let crowd = crowd_text(rt.alloc())?;
+    print(
+        rt,
+        "1,024 statuses",
+        &crowd,
+        quickest(|| time_statuses(rt, &crowd))?,
     )
 }
 

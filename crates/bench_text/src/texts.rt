@@ -71,3 +71,29 @@ pub fn short_text(alloc: Global) -> Result<String, AllocError> {
     write!(text, "{TAKE}]}}\n")?;
     Ok(text)
 }
+
+/// A group of 64 threads, which block two signals and catch one.
+fn push_group(text: &mut String, tgid: u32) -> Result<(), AllocError> {
+    write!(
+        text,
+        "{{\"tgid\": {tgid}, \"name\": \"demo\", \"actions\": [{{\"sig\": 10, \"how\": \"catch\"}}], \"threads\": ["
+    )?;
+    for place in 0..64_u32 {
+        let comma = if place == 0 { "" } else { ", " };
+        let tid = tgid.wrapping_add(place);
+        write!(text, "{comma}{{\"tid\": {tid}, \"blocked\": [10, 34]}}")?;
+    }
+    text.push_str("]}")
+}
+
+/// 16 groups of 64 threads, and no step.
+pub fn crowd_text(alloc: Global) -> Result<String, AllocError> {
+    let mut text = String::new(alloc);
+    text.push_str("{\"version\": 1, \"limit\": 4, \"entries\": 1, \"groups\": [\n")?;
+    for group in 1..17_u32 {
+        text.push_str(if group == 1 { "" } else { ",\n" })?;
+        push_group(&mut text, group.wrapping_mul(64))?;
+    }
+    text.push_str("], \"steps\": []}\n")?;
+    Ok(text)
+}

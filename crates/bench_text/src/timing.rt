@@ -2,7 +2,9 @@ use crate::counts::Count;
 use std::io;
 use std::rt::Clock;
 use std::time::Instant;
+use tr_kernel::Kernel;
 use tr_scenario::{FromReader, Job, ScenarioFault, ToWriter, json, read, serial};
+use tr_status::write_thread;
 
 /// How many rounds are timed; the quickest counts.
 const ROUNDS: usize = 50;
@@ -67,6 +69,27 @@ pub fn time_serial(rt: &HostRuntime, text: &str) -> io::Result<Timing> {
     let outcome = serial(rt.alloc(), &mut reader, &mut writer);
     let seconds = start.elapsed(rt)?.as_secs_f64();
     no_fault(outcome)?;
+    Ok(Timing {
+        seconds,
+        written: count.bytes,
+    })
+}
+
+/// Writes the status of each thread of a scenario's start into memory.
+pub fn time_statuses(rt: &HostRuntime, text: &str) -> io::Result<Timing> {
+    let scenario = no_fault(read(rt.alloc(), text.as_bytes()))?;
+    let Ok(kernel) = Kernel::new(rt.alloc(), scenario.start) else {
+        return Err(io::ErrorKind::InvalidData.into());
+    };
+    let mut count = Count { bytes: 0 };
+    let start = Instant::now(rt)?;
+    for thread in kernel.table().threads() {
+        let mut writer = ToWriter::new(&mut count);
+        if write_thread(kernel.table(), thread, &mut writer).is_err() {
+            return Err(io::ErrorKind::Other.into());
+        }
+    }
+    let seconds = start.elapsed(rt)?.as_secs_f64();
     Ok(Timing {
         seconds,
         written: count.bytes,
