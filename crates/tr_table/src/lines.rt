@@ -42,6 +42,45 @@ pub(crate) struct Queue {
     pub(crate) count: usize,
 }
 
+/// What is kept of a line. The line that came last is looked at first.
+#[inline(always)]
+pub(crate) fn find_line(lines: &IndexMap<LineKey, Line, WordHashing>, key: &LineKey) -> Option<Line>
+    ensures { result ≡ line_at lines.now key.now.target key.now.signal }
+{
+    match lines.get_index(lines.len().saturating_sub(1)) {
+        Some((last, line)) if last == key => Some(*line),
+        _ => find_other_line(lines, key),
+    }
+}
+
+#[inline(never)]
+fn find_other_line(lines: &IndexMap<LineKey, Line, WordHashing>, key: &LineKey) -> Option<Line>
+    ensures { result ≡ line_at lines.now key.now.target key.now.signal }
+{
+    lines.get(key).copied()
+}
+
+/// What is kept of the queue of a target. The queue that came last is looked at first.
+#[inline(always)]
+pub(crate) fn find_queue(
+    queues: &IndexMap<Target, Queue, WordHashing>,
+    target: Target,
+) -> Option<Queue>
+    ensures { result ≡ queue_at queues.now target }
+{
+    match queues.get_index(queues.len().saturating_sub(1)) {
+        Some((last, queue)) if *last == target => Some(*queue),
+        _ => find_other_queue(queues, target),
+    }
+}
+
+#[inline(never)]
+fn find_other_queue(queues: &IndexMap<Target, Queue, WordHashing>, target: Target) -> Option<Queue>
+    ensures { result ≡ queue_at queues.now target }
+{
+    queues.get(&target).copied()
+}
+
 /// Writes the value of a key that the map has, or takes the key out.
 pub(crate) fn rewrite<K: Eq + Hash + Drop, V: Drop>(
     map: &mut IndexMap<K, V, WordHashing>,

@@ -12,7 +12,8 @@ ghost use Rattle.tr_table.specs.declared.slots.Slot.{Slot};
 
 use crate::hashing::WordHashing;
 use crate::lines::{
-    Line, LineKey, Queue, enter_all, enter_line, enter_queue, leave_line, leave_queue,
+    Line, LineKey, Queue, enter_all, enter_line, enter_queue, find_line, find_queue, leave_line,
+    leave_queue,
 };
 use crate::picked::{Flush, Picked, is_picked, log_picked};
 use crate::slots::{Slot, close_up, place_of, retarget, trim};
@@ -104,7 +105,7 @@ impl Pending {
         if !self.may_wait(target) {
             return None;
         }
-        self.queues.get(&target).copied()
+        find_queue(&self.queues, target)
     }
 
     /// How many instances wait for the target.
@@ -119,6 +120,7 @@ impl Pending {
     }
 
     /// The set of the signals that wait for the target.
+    #[inline(always)]
     pub(crate) fn mask(&self, target: Target) -> SigSet
         requires { IsPending self.now }
         ensures { IsMask result (queue_in target (standing self.now.slots.items)) }
@@ -160,7 +162,7 @@ impl Pending {
             target,
             signal: signal.number(),
         };
-        let line = self.lines.get(&key)?;
+        let line = find_line(&self.lines, &key)?;
         self.instance(line.first)
     }
 
@@ -247,7 +249,7 @@ impl Pending {
             target,
             signal: signal.number(),
         };
-        let first = self.lines.get(&key)?.first;
+        let first = find_line(&self.lines, &key)?.first;
         self.remove(first)
     }
 

@@ -120,13 +120,22 @@ impl Table {
     }
 
     /// Looks at the groups that something happened to, so that none of them has to be looked at again.
+    #[inline(always)]
     pub fn settle(&mut self)
         ensures { self.new ≡ self.old }
     {
         if self.groups.stopping() == 0 && !self.groups.has_notes() && self.noted.is_empty() {
             self.unsettled = Unsettled::Nowhere;
-            return;
+        } else {
+            self.settle_touched();
         }
+    }
+
+    /// Looks at the groups that something happened to.
+    #[inline(never)]
+    fn settle_touched(&mut self)
+        ensures { self.new ≡ self.old }
+    {
         match self.unsettled {
             Unsettled::Nowhere => {}
             Unsettled::In(tgid) => {

@@ -12,5 +12,5 @@ returns-in_err-line c =
 
 pub returns : goal.returns
 returns c =
-    let line : line_at c.args.self.now.lines c.args.target c.args.signal ≡ Some c.in_ok-line.line.now = search rules in
-    c.instance.ensures ∙ first_line c.args.target c.args.signal (standing c.args.self.now.slots.items) c.in_ok-line.line.now (standing_sorted _ c.requires.sorted) (sym (c.requires.lines.lined c.args.target c.args.signal) ∙ line)
+    let line : line_at c.args.self.now.lines c.args.target c.args.signal ≡ Some c.in_ok-line.line = search rules in
+    c.instance.ensures ∙ first_line c.args.target c.args.signal (standing c.args.self.now.slots.items) c.in_ok-line.line (standing_sorted _ c.requires.sorted) (sym (c.requires.lines.lined c.args.target c.args.signal) ∙ line)

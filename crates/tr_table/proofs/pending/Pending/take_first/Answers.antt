@@ -17,10 +17,10 @@ returns-in_err-first-clause-waiting c =
 
 pub returns-clause-taken : goal.returns-clause-taken
 returns-clause-taken c =
-    let line : line_at c.args.self.now.lines c.args.target c.args.signal ≡ Some c.in_ok-first.field-0.now = search rules in
-    c.remove.ensures.taken ∙ first_line c.args.target c.args.signal (standing c.args.self.now.slots.items) c.in_ok-first.field-0.now (standing_sorted _ c.requires.sorted) (sym (c.requires.lines.lined c.args.target c.args.signal) ∙ line)
+    let line : line_at c.args.self.now.lines c.args.target c.args.signal ≡ Some c.in_ok-first.field-0 = search rules in
+    c.remove.ensures.taken ∙ first_line c.args.target c.args.signal (standing c.args.self.now.slots.items) c.in_ok-first.field-0 (standing_sorted _ c.requires.sorted) (sym (c.requires.lines.lined c.args.target c.args.signal) ∙ line)
 
 pub returns-clause-waiting : goal.returns-clause-waiting
 returns-clause-waiting c =
-    let line : line_at c.args.self.now.lines c.args.target c.args.signal ≡ Some c.in_ok-first.field-0.now = search rules in
-    c.remove.ensures.waiting ∙ without_line c.args.target c.args.signal (standing c.args.self.now.slots.items) c.in_ok-first.field-0.now (standing_sorted _ c.requires.sorted) (sym (c.requires.lines.lined c.args.target c.args.signal) ∙ line)
+    let line : line_at c.args.self.now.lines c.args.target c.args.signal ≡ Some c.in_ok-first.field-0 = search rules in
+    c.remove.ensures.waiting ∙ without_line c.args.target c.args.signal (standing c.args.self.now.slots.items) c.in_ok-first.field-0 (standing_sorted _ c.requires.sorted) (sym (c.requires.lines.lined c.args.target c.args.signal) ∙ line)

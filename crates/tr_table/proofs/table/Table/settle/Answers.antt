@@ -1,9 +1,8 @@
-use Rattle.std.proofs.Common.{◌≡◌, ◌∙◌, ◌==◌, ◌&&◌, ◌||◌, Bool, ap, false, not, sym}
-use Rattle.std.specs.List.{list_any}
+use Rattle.std.proofs.Common.{◌∙◌, ◌==◌, ◌&&◌, ◌||◌, Bool, ap, not, sym}
 use Rattle.tr_model.specs.Journals.{occurs}
-use Rattle.tr_table.specs.Settled.{has_mark, is_open_row, shows_note}
+use Rattle.tr_table.specs.Settled.{has_mark, shows_note}
 use Rattle.tr_table.proofs.Settling.{none_in}
-use Rattle.tr_table.proofs.Unsettling.{noteless, nowhere_left}
+use Rattle.tr_table.proofs.Unsettling.{noteless}
 use Rattle.tr_table.proofs.table.Table.settle.Goals as goal
 
 pub invariant_of-self : goal.invariant_of-self
@@ -19,11 +18,3 @@ invariant_of-self c =
       ordered = c.self.invariant.ordered;
       settled = λ g. ap (λ (b : Bool). b && not (has_mark ts g) || shows_note ts xs g && occurs g listed == 0) (stops g) ∙ ap (λ (b : Bool). b && occurs g listed == 0) (notes g);
     }
-
-pub invariant_of-self-then-not-some_open : goal.invariant_of-self-then-not-some_open
-invariant_of-self-then-not-some_open c =
-    let ts = c.self.inside.threads in
-    let xs = c.self.inside.groups in
-    let listed = c.list_notes.new.listed.numbers in
-    let none : list_any (is_open_row ts listed) xs ≡ false = ap (list_any (is_open_row ts listed)) (sym c.as_slice-in-Anywhere.ensures) ∙ (sym c.some_open.ensures ∙ c.if-not-some_open.true) in
-    record { roster = c.self.invariant.roster; few = c.self.invariant.few; ordered = c.self.invariant.ordered; settled = nowhere_left ts xs listed none }
