@@ -50,10 +50,10 @@ no_clone : (T : Table) (a id : ℕ) → Admits T a (event.CloneThread id) no_cho
 no_clone T a id h = none-some h.0 (ap (λ (c : Choice). c.new_id) h.1)
 
 test_is_exact : (T : Table) (a : ℕ) (e : Event) (r : Reply) → (admits_told T a e r ≡ true) ↔ Admits T a e (choice_of e r)
-test_is_exact T a (event.Take id) (reply.Took t i d) =
+test_is_exact T a (event.Take id) (reply.Took d t i) =
     (λ e. (i.n, refl, e), λ h. subst (λ n. takes T (thread_of T id) n ≡ true) (sym (same_Some i.n h.0 (ap (λ (c : Choice). c.instance) h.1))) h.2)
 test_is_exact T a (event.Take id) _ = never (no_take T a id)
-test_is_exact T a (event.TakeAny g) (reply.Took t i d) = (
+test_is_exact T a (event.TakeAny g) (reply.Took d t i) = (
   λ e. let p = and_parts (is_in g (thread_of T t)) (takes T (thread_of T t) i.n) e in (t, i.n, refl, p.0, p.1),
   λ h.
       let who : t ≡ h.0 = same_Some t h.0 (ap (λ (c : Choice). c.thread) h.2) in

@@ -40,7 +40,7 @@ take_marked : (T : Table) (ids : List ℕ) (ps : List IdTransfer) → ((n : ℕ)
 take_marked T ids ps h s id n d =
     let b = chosen_is T d.thread n d.instance s d.chosen in
     let k = ap (λ o. taken_by T o n) d.there ∙ b.taken in
-    let r : Steps.took_reply T (thread_of T id) (instance_in T.waiting n) ≡ reply.Took d.thread.id d.instance (Takes.did_at_take T d.thread d.instance) = ap₂ (Steps.took_reply T) d.there b.waits in
+    let r : Steps.took_reply T (thread_of T id) (instance_in T.waiting n) ≡ reply.Took (Takes.did_at_take T d.thread d.instance) d.thread.id d.instance = ap₂ (Steps.took_reply T) d.there b.waits in
     ap₂ (λ x o. fact_after Nothing (queue_of o) ps x) r k
     ∙ (ap (λ p. Take (record { number = d.instance.n; signal = d.instance.sig; queue = b.from; transfers = p })) (passes_same ids ps h b.from) ∙ sym (ap (take_fact ids) k))
 

@@ -44,8 +44,8 @@ abbrev pub told : Entry → KeptReply → Reply
 told e kept.Done = reply.Done
 told e kept.Exists = reply.Exists
 told e kept.Nothing = reply.Nothing
-told e (kept.Sent high low fate) = reply.Sent (high * 2 ^ 32 + low) fate
-told e (kept.Took info sig did) = reply.Took (taker e) (record { n = number e.choice.instance; sig = sig; info = info }) did
+told e (kept.Sent fate high low) = reply.Sent fate (high * 2 ^ 32 + low)
+told e (kept.Took info sig did) = reply.Took did (taker e) (record { n = number e.choice.instance; sig = sig; info = info })
 told e (kept.Cloned id) = reply.Cloned id
 told e (kept.Waited id word) = reply.Waited id word (number e.choice.report)
 told e (kept.Message value) = reply.Message value
@@ -59,7 +59,7 @@ all_told (e ∷ es) (k ∷ ks) = told e k ∷ all_told es ks
 
 -- the entry tells which thread took which number, and which report was consumed
 abbrev pub IsToldBy : Entry → Reply → Type 0
-IsToldBy e (reply.Took id i did) = (id ≡ taker e) × (i.n ≡ number e.choice.instance)
+IsToldBy e (reply.Took did id i) = (id ≡ taker e) × (i.n ≡ number e.choice.instance)
 IsToldBy e (reply.Waited id word report) = report ≡ number e.choice.report
 IsToldBy e _ = Unit {0}
 

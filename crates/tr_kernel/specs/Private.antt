@@ -117,7 +117,7 @@ fact_before T a _ c = Nothing
 -- its fact after the step, by the queue that it took from and its reply
 abbrev pub fact_after : EntryFact → Option Target → List IdTransfer → Reply → EntryFact
 fact_after m None ps r = m
-fact_after m (Some q) ps (reply.Took id i did) = Take (record { number = i.n; signal = i.sig; queue = q; transfers = transfers_in ps q })
+fact_after m (Some q) ps (reply.Took did id i) = Take (record { number = i.n; signal = i.sig; queue = q; transfers = transfers_in ps q })
 fact_after m (Some q) ps _ = m
 
 -- the note of an entry that did this work, after so many deaths of groups
@@ -209,9 +209,9 @@ pub record SameQueue (k l : TakenFrom) : Type 0 where
 
 -- whether the model admits the choice that a reply tells
 abbrev pub admits_told : Table → ℕ → Event → Reply → Bool
-admits_told T a (event.Take id) (reply.Took t i did) = takes T (thread_of T id) i.n
+admits_told T a (event.Take id) (reply.Took did t i) = takes T (thread_of T id) i.n
 admits_told T a (event.Take id) _ = false
-admits_told T a (event.TakeAny g) (reply.Took t i did) = is_in g (thread_of T t) && takes T (thread_of T t) i.n
+admits_told T a (event.TakeAny g) (reply.Took did t i) = is_in g (thread_of T t) && takes T (thread_of T t) i.n
 admits_told T a (event.TakeAny g) _ = false
 admits_told T a (event.Wait which) (reply.Waited id word r) = is_some (ready_thread T a which r)
 admits_told T a (event.Wait which) _ = false

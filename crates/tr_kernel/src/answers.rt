@@ -6,10 +6,10 @@ use tr_model::{Event, Refusal, Reply, Same};
 /// What the caller is told of its entry.
 #[derive(Clone, Copy, Debug, PartialEq, Eq)]
 pub struct Receipt {
+    pub reply: Reply,
     /// The entry's place in the journal, from 1.
     pub position: u64,
     pub event: Event,
-    pub reply: Reply,
     /// How many signals the entry accepted: at most 1,024.
     pub accepted: u64,
 }

@@ -17,7 +17,7 @@ pub(crate) enum KeptReply {
     Done,
     Exists,
     Nothing,
-    Sent { high: u32, low: u32, fate: Fate },
+    Sent { fate: Fate, high: u32, low: u32 },
     Took { info: Info, sig: Signal, did: Did },
     Cloned { tid: u32 },
     Waited { id: u32, word: u32 },
@@ -36,6 +36,7 @@ fn taker(entry: &Entry) -> u32
 }
 
 /// What is to be kept of a reply.
+#[inline(always)]
 pub(crate) fn kept(reply: &Reply) -> KeptReply
     ensures { (e : Entry) → IsToldBy e reply.now → told e result ≡ reply.now }
 {

@@ -307,10 +307,10 @@ abbrev pub nothing : Answer
 nothing = Read reply.Nothing
 
 abbrev pub sent : ℕ → Fate → Answer
-sent n f = Entered (reply.Sent n f)
+sent n f = Entered (reply.Sent f n)
 
 abbrev pub took_with : ℕ → ℕ → ℕ → ℤ → ℕ → ℤ → Did → Answer
-took_with id n s code pid value did = Entered (reply.Took id (record { n = n; sig = s; info = info code pid value }) did)
+took_with id n s code pid value did = Entered (reply.Took did id (record { n = n; sig = s; info = info code pid value }))
 
 -- an instance of the signal that the sender sent by kill(2)
 abbrev pub took : ℕ → ℕ → ℕ → Did → Answer

@@ -82,7 +82,7 @@ only_threads_that_do_not_block_a_signal_may_take_it : map (λ id. takes two_can_
 unfolding in_word
 only_threads_that_do_not_block_a_signal_may_take_it = refl
 
-the_reply_of_a_take_names_the_thread_that_was_chosen : (after two_can_take (record { actor = 900; event = event.TakeAny 10; choice = takes_by 12 1 })).reply ≡ reply.Took 12 (record { n = 1; sig = 12; info = info (pos 0) 901 (pos 0) }) Caught
+the_reply_of_a_take_names_the_thread_that_was_chosen : (after two_can_take (record { actor = 900; event = event.TakeAny 10; choice = takes_by 12 1 })).reply ≡ reply.Took Caught 12 (record { n = 1; sig = 12; info = info (pos 0) 901 (pos 0) })
 unfolding in_word
 the_reply_of_a_take_names_the_thread_that_was_chosen = refl
 

@@ -220,7 +220,7 @@ unfolding in_word new_id
 a_clone_of_a_seized_tracee_is_sent_nothing = refl
 
 -- that of an attached one is sent its SIGSTOP by the kernel
-the_stop_of_a_clone_has_no_sender : answers one (attach ∷ take ∷ options_of 10 with_clone ∷ cont 0 ∷ clone ∷ take_by 11 ∷ []) ≡ sent 1 Pending ∷ took_attached ∷ ok ∷ ok ∷ cloned 11 ∷ Entered (reply.Took 11 (record { n = 2; sig = 19; info = record { code = pos 0; pid = 0; value = pos 0 } }) Reported) ∷ []
+the_stop_of_a_clone_has_no_sender : answers one (attach ∷ take ∷ options_of 10 with_clone ∷ cont 0 ∷ clone ∷ take_by 11 ∷ []) ≡ sent 1 Pending ∷ took_attached ∷ ok ∷ ok ∷ cloned 11 ∷ Entered (reply.Took Reported 11 (record { n = 2; sig = 19; info = record { code = pos 0; pid = 0; value = pos 0 } })) ∷ []
 unfolding in_word new_id
 the_stop_of_a_clone_has_no_sender = refl
 

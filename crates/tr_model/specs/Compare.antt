@@ -22,8 +22,8 @@ pub record Permits (T : Table) (a : ℕ) (e : Event) (c : Choice) : Type 0 where
 
 -- a take tells its instance, a take by any thread also the thread, a wait its report, a clone its id
 abbrev pub choice_of : Event → Reply → Choice
-choice_of (event.Take id) (reply.Took t i did) = takes_instance i.n
-choice_of (event.TakeAny g) (reply.Took t i did) = takes_by t i.n
+choice_of (event.Take id) (reply.Took did t i) = takes_instance i.n
+choice_of (event.TakeAny g) (reply.Took did t i) = takes_by t i.n
 choice_of (event.Wait which) (reply.Waited id word r) = gives_report r
 choice_of (event.StarterWait which flags) (reply.Waited id word r) = gives_report r
 choice_of (event.CloneThread id) (reply.Cloned new) = gives_id new

@@ -35,7 +35,7 @@ fate_of_send T s q =
 
 -- the reply of a send
 abbrev pub sent_before : Table → Fate → Reply
-sent_before T fate = reply.Sent (T.accepted + 1) fate
+sent_before T fate = reply.Sent fate (T.accepted + 1)
 
 -- PTRACE_ATTACH sends SIGSTOP to a thread that is traced from now on, so it is never ignored
 abbrev pub reply_before : Table → ℕ → Event → Choice → Reply

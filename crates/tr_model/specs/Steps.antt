@@ -109,13 +109,13 @@ fate_in (e ∷ es) n = if e.number == n then e.fate else fate_in es n
 
 -- the first signal that the entry accepted, and its fate right after the step
 abbrev pub sent : Table → Work → Reply
-sent T w = reply.Sent (T.accepted + 1) (fate_in w.ended (T.accepted + 1))
+sent T w = reply.Sent (fate_in w.ended (T.accepted + 1)) (T.accepted + 1)
 
 -- which thread took which instance, and what it did with it
 abbrev pub took_reply : Table → Option Thread → Option Instance → Reply
 took_reply T None i = reply.Nothing
 took_reply T (Some t) None = reply.Nothing
-took_reply T (Some t) (Some i) = reply.Took t.id i (Takes.did_at_take T t i)
+took_reply T (Some t) (Some i) = reply.Took (Takes.did_at_take T t i) t.id i
 
 -- the id that a wait names, its wait status as a word, and the number of the report
 abbrev pub waited : ℕ → Option Report → Reply

@@ -18,9 +18,9 @@ enum Kind {
 /// 16 bytes.
 #[derive(Clone, Copy, Debug, PartialEq, Eq)]
 pub struct Choice {
-    number: u64,
-    id: u32,
     kind: Kind,
+    id: u32,
+    number: u64,
 }
 
 impl Model for Choice {

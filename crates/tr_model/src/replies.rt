@@ -17,7 +17,7 @@ pub enum Did {
     Reported,
 }
 
-/// The answer to an event that isn't refused.
+/// The answer to an event that isn't refused. Each variant's small fields come first, so that it is 32 bytes.
 #[derive(Clone, Copy, Debug, PartialEq, Eq)]
 pub enum Reply {
     /// It is done, and there is nothing to tell.
@@ -26,10 +26,10 @@ pub enum Reply {
     Exists,
     /// There was nothing to take, nothing to wait for or no tracee.
     Nothing,
-    /// The signal was accepted as this number; its fate right after the step.
-    Sent { n: u64, fate: Fate },
-    /// The thread that took a signal, what it took, and what it did with it.
-    Took { tid: u32, inst: Instance, did: Did },
+    /// The signal's fate right after the step, and the number that it was accepted as.
+    Sent { fate: Fate, n: u64 },
+    /// What was done with a signal that was taken, by which thread, and the signal.
+    Took { did: Did, tid: u32, inst: Instance },
     /// The new thread's id.
     Cloned { tid: u32 },
     /// The report of a thread or a group: its status as a word, and its number.

@@ -36,7 +36,7 @@ subject T _ = None
 
 -- who took is told by the reply
 abbrev pub stopper : Option ℕ → Reply → Option ℕ
-stopper id (Took tid i did) = Some tid
+stopper id (Took did tid i) = Some tid
 stopper id _ = id
 
 -- Why

@@ -49,7 +49,7 @@ pub record Takes (T : Table) (t : Thread) (i : Instance) : Type 0 where
 
 -- what comes of it
 abbrev pub take_outcome : Table → Thread → Instance → Outcome
-take_outcome T t i = record { reply = reply.Took t.id i (did_at_take T t i); work = complete_group_stops (take t i (begin T)) }
+take_outcome T t i = record { reply = reply.Took (did_at_take T t i) t.id i; work = complete_group_stops (take t i (begin T)) }
 
 -- by a signal whose default action ends the group
 abbrev pub die_of : ℕ → ℕ → Work → Work
