@@ -1,4 +1,4 @@
-ghost use Rattle.std.specs.Prelude.{◌≡◌, ◌++◌, ◌+◌, ◌-◌, ◌<◌, ◌≤◌, ◌∷◌, ◌^◌, [], None, OnErr, OnOk, length, nat_le, slice_get};
+ghost use Rattle.std.specs.Prelude.{◌≡◌, ◌++◌, ◌+◌, ◌-◌, ◌<◌, ◌≤◌, ◌∷◌, ◌^◌, [], None, OnErr, OnOk, false, length, nat_le, slice_get, true};
 ghost use Rattle.tr_kernel.specs.Kept.{AreWithin, IsUpto, blank, deaths_of, is_blank, note_upto};
 
 use crate::notes::{EntryFact, Note};
@@ -51,6 +51,7 @@ fn is_blank(note: &Note, deaths: u64) -> bool
 }
 
 /// How many deaths had begun after the last of these notes.
+#[inline(always)]
 fn deaths_of(kept: &[KeptNote]) -> u64
     ensures { result ≡ deaths_of 0 kept.now }
 {
@@ -99,6 +100,21 @@ impl NoteList {
         ensures room { OnOk result (0 < self.new.room) }
     {
         self.kept.reserve(1)
+    }
+
+    /// Appends the note of an entry that is nothing to the laws, after so many deaths, where as many had begun after the
+    /// last note that is kept; else it appends none.
+    #[inline(always)]
+    pub(crate) fn push_blank(&mut self, deaths: u64) -> bool
+        requires few { length self.old.notes < 2 ^ 32 }
+        ensures pushed { result ≡ true → self.new.notes ≡ self.old.notes ++ blank deaths ∷ [] }
+        ensures unchanged { result ≡ false → self.new ≡ self.old }
+    {
+        if deaths_of(&self.kept) != deaths {
+            return false;
+        }
+        self.len += 1;
+        true
     }
 
     /// Appends a note.

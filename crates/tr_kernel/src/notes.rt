@@ -1,6 +1,6 @@
-ghost use Rattle.std.specs.Prelude.{◌≡◌, ◌≤◌, ◌<◌, ◌+◌, ◌++◌, ◌∷◌, ◌^◌, [], ℕ, false, length, not, option_copied, slice_get, vec_len, vec_capacity, OnOk};
+ghost use Rattle.std.specs.Prelude.{◌≡◌, ◌≤◌, ◌<◌, ◌+◌, ◌++◌, ◌∷◌, ◌^◌, [], ℕ, false, length, not, option_copied, slice_get, true, vec_len, vec_capacity, OnOk};
 ghost use Rattle.tr_kernel.specs.Notes.{exec_fact, is_some_group, is_stop_status, shows_stop, stop_fact, times};
-ghost use Rattle.tr_kernel.specs.Private.{AreTransferred, killed_in, fact_after, fact_before, fact_in, note_with, transfers_in};
+ghost use Rattle.tr_kernel.specs.Private.{AreTransferred, IsPlain, killed_in, fact_after, fact_before, fact_in, note_with, transfers_in};
 
 use crate::lists::append;
 use crate::note_list::NoteList;
@@ -126,6 +126,7 @@ fn exec_fact(thread: Option<&Thread>) -> EntryFact
 }
 
 /// What an entry is to the laws, as far as the table before it shows.
+#[inline(always)]
 pub(crate) fn fact_before(table: &Table, actor: u32, event: &Event, choice: Choice) -> EntryFact
     ensures { result ≡ fact_before table.now.table actor event.now choice }
 {
@@ -230,6 +231,18 @@ fn append_all(list: &mut Vec<u32>, more: &[u32])
     }
 }
 
+/// Tells whether a step did nothing that a note would tell: it took from no queue, no group's death began, nobody was
+/// killed, and no id passed on.
+#[inline(always)]
+fn is_plain(step: &Step) -> bool
+    ensures { result ≡ true → IsPlain step.now }
+{
+    step.taken_from().is_none()
+        && step.dying().is_empty()
+        && step.killed().is_empty()
+        && step.renamed().is_empty()
+}
+
 // What a note says
 
 pub(crate) fn fact_in(note: &Option<Note>) -> EntryFact
@@ -265,6 +278,7 @@ impl Notes {
 
     /// Makes room for the note of one entry, by which at most this many deaths of groups begin. Where memory is refused
     /// the notes are as before.
+    #[inline(always)]
     pub(crate) fn reserve(&mut self, deaths: usize) -> Result<(), AllocError>
         ensures list { self.new.list.notes ≡ self.old.list.notes }
         ensures dying { self.new.dying.items ≡ self.old.dying.items }
@@ -281,6 +295,7 @@ impl Notes {
     }
 
     /// Notes an entry, for which there is room: what it was before the step, and what the step made.
+    #[inline(always)]
     pub(crate) fn note(&mut self, fact: EntryFact, step: &Step, reply: &Reply)
         requires list { (0 < self.old.list.room) × (length self.old.list.notes < 2 ^ 32) }
         requires dying { vec_len self.old.dying + length step.now.work.dying
@@ -296,7 +311,33 @@ impl Notes {
         ensures transfers { AreTransferred step.now.work.renamed
             self.old.transfers.items self.new.transfers.items }
     {
-        let fact = fact_after(fact, reply, step.taken_from(), &self.transfers);
+        if matches!(fact, EntryFact::Nothing)
+            && is_plain(step)
+            && self.list.push_blank(self.dying.len() as u64)
+        {
+            return;
+        }
+        self.note_made(&fact, step, reply);
+    }
+
+    /// Notes an entry that may be something to the laws.
+    #[inline(never)]
+    fn note_made(&mut self, fact: &EntryFact, step: &Step, reply: &Reply)
+        requires list { (0 < self.old.list.room) × (length self.old.list.notes < 2 ^ 32) }
+        requires dying { vec_len self.old.dying + length step.now.work.dying
+            ≤ vec_capacity self.old.dying }
+        requires transfers { vec_len self.old.transfers < vec_capacity self.old.transfers }
+        requires few { (n : ℕ) → times n self.old.transfers.items < 2 ^ 32 }
+        requires one { length step.now.work.renamed ≤ 1 }
+        ensures list { self.new.list.notes
+            ≡ self.old.list.notes
+            ++ note_with (fact_after fact.now step.now.taken_from self.old.transfers.items reply.now)
+            (length self.old.dying.items) step.now.work ∷ [] }
+        ensures dying { self.new.dying.items ≡ self.old.dying.items ++ step.now.work.dying }
+        ensures transfers { AreTransferred step.now.work.renamed
+            self.old.transfers.items self.new.transfers.items }
+    {
+        let fact = fact_after(*fact, reply, step.taken_from(), &self.transfers);
         append_all(&mut self.dying, step.dying());
         count_first_transfer(&mut self.transfers, step.renamed());
         let note = Note {
