@@ -47,6 +47,7 @@ fn copied(reply: &Reply) -> Reply
 /// Makes the entry of an event that is due, with any choice that the model admits, and writes it down, with its reply, the
 /// fates and its note. All that may want memory comes first. Where memory is refused nothing has changed.
 #[tactic(auto, using(crate::proofs::Logs::deaths_few, crate::proofs::Checks::permits_fixed))]
+#[inline(always)]
 pub(crate) fn write_entry(
     step: &mut Step,
     journal: &mut Journal,

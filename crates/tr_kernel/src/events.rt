@@ -60,6 +60,7 @@ pub(crate) fn check(table: &Table, actor: u32, event: &Event) -> Result<Checked,
 }
 
 /// Makes an event that is due, with any choice that the model admits. Where memory is refused nothing has changed.
+#[inline(always)]
 pub(crate) fn change(
     step: &mut Step,
     alloc: Global,

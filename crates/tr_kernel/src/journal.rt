@@ -100,6 +100,7 @@ impl Journal {
 
     /// Appends an entry with its reply.
     #[tactic(auto, using(crate::proofs::Told::told_push))]
+    #[inline(always)]
     pub(crate) fn push(&mut self, entry: &Entry, reply: &Reply)
         requires room { 0 < self.old.room }
         requires told { IsToldBy entry.now reply.now }

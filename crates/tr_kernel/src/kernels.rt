@@ -387,6 +387,7 @@ impl Kernel {
     ///
     /// `JournalFull` comes exactly where the journal has as many entries as the entry limit; `NoMemory` only where it isn't
     /// full. After a refusal nothing has changed.
+    #[inline(always)]
     pub fn step_as(&mut self, actor: u32, event: &Event, choice: Choice) -> Result<Reply, Refusal>
         requires due { Permits self.old.table actor event.now choice }
         ensures ok { IfOk result
@@ -436,6 +437,7 @@ impl Kernel {
     }
 
     /// Makes the entry of an event that is due. Where memory is refused nothing has changed.
+    #[inline(always)]
     fn enter(&mut self, actor: u32, event: &Event, choice: Choice) -> Result<Reply, Refusal>
         requires few { length self.old.journal < 2 ^ 32 }
         requires due { Permits self.old.table actor event.now choice }

@@ -139,6 +139,7 @@ fn consume_some(step: &mut Step, thread: &Option<Thread>)
 /// A wait of a tracer that is due, for the report of this number: waitpid(2) with `__WALL` and `WNOHANG`. The report is
 /// gone then. A death that is told takes the thread out of the table, but a leader stays for the starter, who is told
 /// next. Where memory is refused, or the numbers are used up, nothing has changed.
+#[inline(always)]
 pub fn wait(step: &mut Step, actor: u32, which: Which, r: u64) -> Result<Reply, AllocError>
     requires due { Permits step.old.work.table actor (Wait which) (gives_report r) }
     ensures did { IfOk result

@@ -58,6 +58,7 @@ pub fn fate_in(ended: &[Ending], n: u64) -> Fate
 
 /// Sends the signal of a number, which is accepted as the next number; the reply has its fate right after the step.
 /// Where memory is refused, or the numbers are used up, nothing has changed.
+#[inline(always)]
 fn send_numbered(step: &mut Step, sig: u8, info: &Info, target: Target) -> Result<Reply, AllocError>
     requires least { 1 ≤ sig }
     requires greatest { sig ≤ 64 }
@@ -84,6 +85,7 @@ pub fn check_kill(table: &Table, tgid: u32, sig: u8) -> Result<Checked, Refusal>
 
 /// A kill(2) that is due: the signal is accepted as the next number, and the reply has its fate right after the step.
 /// Where memory is refused, or the numbers are used up, nothing has changed.
+#[inline(always)]
 pub fn kill(step: &mut Step, actor: u32, tgid: u32, sig: u8) -> Result<Reply, AllocError>
     requires due { check step.old.work.table actor (Kill tgid sig) ≡ Ok (Due no_choice) }
     ensures did { IfOk result
@@ -117,6 +119,7 @@ pub fn check_tgkill(table: &Table, tgid: u32, tid: u32, sig: u8) -> Result<Check
 
 /// A tgkill(2) that is due: `SI_TKILL`, by the actor, for one thread. Where memory is refused, or the numbers are used
 /// up, nothing has changed.
+#[inline(always)]
 pub fn tgkill(
     step: &mut Step,
     actor: u32,
@@ -146,6 +149,7 @@ pub fn check_sigqueue(table: &Table, tgid: u32, sig: u8, value: i32) -> Result<C
 
 /// A sigqueue(3) that is due: `SI_QUEUE`, by the actor, with a value. Where memory is refused, or the numbers are used
 /// up, nothing has changed.
+#[inline(always)]
 pub fn sigqueue(
     step: &mut Step,
     actor: u32,

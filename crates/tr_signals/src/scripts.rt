@@ -42,6 +42,7 @@ pub fn check_script(table: &Table, tid: u32) -> Result<Checked, Refusal>
 
 /// An entry that changes the record of one thread, and leaves it what it holds. Where memory is refused, or the numbers are
 /// used up, nothing has changed.
+#[inline(always)]
 pub fn change_own(step: &mut Step, tid: u32, change: &ThreadChange) -> Result<Reply, AllocError>
     requires keeps { keeps_held change.now ≡ true }
     ensures did { IfOk result

@@ -105,6 +105,7 @@ pub fn check_halt(table: &Table, tid: u32) -> Result<Checked, Refusal>
 /// A thread's stop for a group-stop that is due: its mark goes, and it takes part. A thread that nobody traces is
 /// stopped, an attached tracee enters a stop by the signal, a seized one `PTRACE_EVENT_STOP`. Where memory is refused,
 /// or the numbers are used up, nothing has changed.
+#[inline(always)]
 pub fn halt(step: &mut Step, actor: u32, tid: u32) -> Result<Reply, AllocError>
     requires due { check step.old.work.table actor (Halt tid) ≡ Ok (Due no_choice) }
     ensures did { IfOk result (IsStepOf step.old.work.table (entry actor (Halt tid)) step.new) }
@@ -165,6 +166,7 @@ pub fn check_trap(table: &Table, tid: u32) -> Result<Checked, Refusal>
 
 /// A tracee's trap that is due: it enters `PTRACE_EVENT_STOP`, of the signal of the group-stop in effect, in which it
 /// then takes part, else of SIGTRAP. Where memory is refused, or the numbers are used up, nothing has changed.
+#[inline(always)]
 pub fn trap(step: &mut Step, actor: u32, tid: u32) -> Result<Reply, AllocError>
     requires due { check step.old.work.table actor (Trap tid) ≡ Ok (Due no_choice) }
     ensures did { IfOk result (IsStepOf step.old.work.table (entry actor (Trap tid)) step.new) }

@@ -56,6 +56,7 @@ pub fn check_take_any(table: &Table, tgid: u32) -> Result<Checked, Refusal>
 
 /// A take by any thread of a group that is due, by any thread of it and of any pending instance that the model lets that
 /// thread take: as `take` by that thread. Where memory is refused, or the numbers are used up, nothing has changed.
+#[inline(always)]
 pub fn take_any(
     step: &mut Step,
     actor: u32,

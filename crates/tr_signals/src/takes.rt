@@ -95,6 +95,7 @@ fn take_instance(step: &mut Step, thread: &Thread, instance: &Instance, did: Did
 /// A take that is due: the thread takes the instance, from the queue where it waits. Where memory is refused, or the numbers are used up, nothing has
 /// changed.
 #[tactic(auto, using(crate::proofs::Chosen::waits_somewhere))]
+#[inline(always)]
 pub(crate) fn take_due(
     step: &mut Step,
     thread: &Thread,
@@ -122,6 +123,7 @@ pub(crate) fn take_due(
 /// A take that is due, of any pending instance that the model lets the thread take: a tracee enters a
 /// signal-delivery-stop that holds it, another thread acts on it. Where memory is refused, or the numbers are used up,
 /// nothing has changed.
+#[inline(always)]
 pub fn take(step: &mut Step, actor: u32, tid: u32, n: u64) -> Result<Reply, AllocError>
     requires due { Permits step.old.work.table actor (Take tid) (takes_instance n) }
     ensures did { IfOk result

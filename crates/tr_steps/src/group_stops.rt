@@ -82,6 +82,7 @@ impl Step {
         }
     }
 
+    #[inline(never)]
     fn complete_stop(&mut self, tgid: u32)
         requires { 1 ≤ self.old.room }
         ensures { Moves (complete_stop tgid) 1 self.old self.new }
@@ -101,6 +102,7 @@ impl Step {
     }
 
     /// The last change of a step: a group-stop whose threads have all stopped is complete.
+    #[inline(always)]
     pub fn complete_group_stops(&mut self)
         requires { length self.old.work.table.groups ≤ self.old.room }
         ensures work { self.new.work ≡ complete_group_stops self.old.work }
@@ -111,6 +113,7 @@ impl Step {
     }
 
     /// The same, before the table is settled: no group is looked at that nothing happened to.
+    #[inline(always)]
     #[tactic(auto, using(tr_table::proofs::Settling::none_complete, tr_table::proofs::Settling::one_complete, tr_table::proofs::Settling::some_there))]
     fn complete_unsettled(&mut self)
         requires { length self.old.work.table.groups ≤ self.old.room }
@@ -124,6 +127,7 @@ impl Step {
         }
     }
 
+    #[inline(never)]
     fn complete_each_group_stop(&mut self)
         requires { length self.old.work.table.groups ≤ self.old.room }
         ensures work { self.new.work ≡ complete_group_stops self.old.work }

@@ -94,6 +94,7 @@ impl Step {
     }
 
     /// The next signal is accepted and waits for a target.
+    #[inline(never)]
     pub fn enqueue(&mut self, signal: Signal, info: &Info, target: Target)
         requires { 1 ≤ self.old.room }
         ensures { Moves (enqueue signal info.now target) 1 self.old self.new }
@@ -104,6 +105,7 @@ impl Step {
 
     /// Pending signals of a group are flushed.
     #[tactic(auto, using(crate::proofs::Helds::filter_halves))]
+    #[inline(never)]
     pub fn flush(&mut self, tgid: u32, flush: &Flush)
         requires { 1 ≤ self.old.room }
         ensures { Moves (flush_in tgid (flushes flush.now)) 0 self.old self.new }

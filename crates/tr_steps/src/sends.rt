@@ -15,6 +15,7 @@ use tr_table::Flush;
 impl Step {
     // First: KILL is delivered at once, whichever thread it aims at; a group whose threads are all dead flushes it.
 
+    #[inline(never)]
     fn send_kill(&mut self, tgid: u32)
         requires { 3 ≤ self.old.room }
         ensures { Moves (send_kill tgid) 3 self.old self.new }
@@ -42,6 +43,7 @@ impl Step {
 
     // Third: a stop signal flushes SIGCONT; SIGCONT flushes stop signals and continues the group.
 
+    #[inline(never)]
     fn continue_by_signal(&mut self, tgid: u32)
         requires { 1 ≤ self.old.room }
         ensures { Moves (continue_by_signal tgid) 1 self.old self.new }
@@ -64,6 +66,7 @@ impl Step {
 
     // Fourth: where the action ignores it, it is flushed if nobody there is traced or blocks it.
 
+    #[inline(never)]
     fn is_open(&self, signal: Signal, target: Target) -> bool
         ensures { result ≡ is_open self.now.work.table signal target }
     {
@@ -94,6 +97,7 @@ impl Step {
     }
 
     /// An accepted signal merges with one that waits for the target already, or waits for it.
+    #[inline(always)]
     pub fn put(&mut self, signal: Signal, info: &Info, target: Target)
         requires { 1 ≤ self.old.room }
         ensures { Moves (put signal info.now target) 1 self.old self.new }
@@ -105,6 +109,7 @@ impl Step {
         }
     }
 
+    #[inline(always)]
     fn put_unless_ignored(&mut self, signal: Signal, info: &Info, target: Target)
         requires { 1 ≤ self.old.room }
         ensures { Moves (put_unless_ignored signal info.now target) 1 self.old self.new }
@@ -116,6 +121,7 @@ impl Step {
         }
     }
 
+    #[inline(always)]
     fn send_other(&mut self, signal: Signal, info: &Info, target: Target)
         requires { 2 ≤ self.old.room }
         ensures { Moves (send_other signal info.now target) 2 self.old self.new }
