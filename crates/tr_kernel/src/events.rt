@@ -24,6 +24,7 @@ use tr_table::Table;
 // Which call serves an event.
 
 /// Whether an event is refused, answered at once, or due.
+#[inline(always)]
 pub(crate) fn check(table: &Table, actor: u32, event: &Event) -> Result<Checked, Refusal>
     ensures { result ≡ check table.now.table actor event.now }
 {
