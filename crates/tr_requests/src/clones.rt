@@ -89,7 +89,6 @@ fn clone_stop_where(step: &mut Step, thread: &Thread, id: u32)
 /// A clone(2) that is due: a thread with this id, which is any new one, comes last in the table, with the thread's mask
 /// and an empty queue. With option clone it is traced as the thread is, which stops. Where memory is refused, or the
 /// numbers are used up, nothing has changed.
-#[inline(always)]
 pub fn clone_thread(step: &mut Step, actor: u32, tid: u32, id: u32) -> Result<Reply, AllocError>
     requires due { Permits step.old.work.table actor (CloneThread tid) (gives_id id) }
     ensures did { IfOk result

@@ -74,7 +74,6 @@ pub fn check_exit(table: &Table, tid: u32, code: u32) -> Result<Checked, Refusal
 
 /// An exit of a thread that is due: _exit(2), with the low byte of the code. Where memory is refused, or the numbers are
 /// used up, nothing has changed.
-#[inline(always)]
 pub fn exit(step: &mut Step, actor: u32, tid: u32, code: u32) -> Result<Reply, AllocError>
     requires due { check step.old.work.table actor (Exit tid code) ≡ Ok (Due no_choice) }
     ensures did { IfOk result
@@ -107,7 +106,6 @@ pub fn check_exit_group(table: &Table, tid: u32, code: u32) -> Result<Checked, R
 
 /// An exit of a thread's group that is due: exit_group(2), with the low byte of the code. Where memory is refused, or the
 /// numbers are used up, nothing has changed.
-#[inline(always)]
 pub fn exit_group(step: &mut Step, actor: u32, tid: u32, code: u32) -> Result<Reply, AllocError>
     requires due { check step.old.work.table actor (ExitGroup tid code) ≡ Ok (Due no_choice) }
     ensures did { IfOk result
@@ -264,7 +262,6 @@ pub fn check_die(table: &Table, tid: u32) -> Result<Checked, Refusal>
 /// The next step of a leaving thread, which is due: it dies, or where its tracer asks for that and it wasn't told yet it
 /// enters its exit stop: "PTRACE_EVENT_EXIT" and "Death under ptrace" of ptrace(2). Where memory is refused, or the
 /// numbers are used up, nothing has changed.
-#[inline(always)]
 pub fn die(step: &mut Step, actor: u32, tid: u32) -> Result<Reply, AllocError>
     requires due { check step.old.work.table actor (Die tid) ≡ Ok (Due no_choice) }
     ensures did { IfOk result (IsStepOf step.old.work.table (entry actor (Die tid)) step.new) }

@@ -116,7 +116,6 @@ pub fn check_exec(table: &Table, tid: u32) -> Result<Checked, Refusal>
 /// An execve(2) that is due. A leader whose group has no other thread that isn't dead has its new program at once; else
 /// the other threads begin to leave, and the thread waits for their deaths. Where memory is refused, or the numbers are
 /// used up, nothing has changed.
-#[inline(always)]
 pub fn exec(step: &mut Step, actor: u32, tid: u32) -> Result<Reply, AllocError>
     requires due { check step.old.work.table actor (Exec tid) ≡ Ok (Due no_choice) }
     ensures did { IfOk result (IsStepOf step.old.work.table (entry actor (Exec tid)) step.new) }
@@ -174,7 +173,6 @@ pub fn check_finish(table: &Table, tid: u32) -> Result<Checked, Refusal>
 /// The end of an execve(2) that is due. A thread that isn't the leader takes the dead leader's place and id, and what
 /// waits for it goes with it; then it runs its new program. Where memory is refused, or the numbers are used up, nothing
 /// has changed.
-#[inline(always)]
 pub fn finish(step: &mut Step, actor: u32, tid: u32) -> Result<Reply, AllocError>
     requires due { check step.old.work.table actor (Finish tid) ≡ Ok (Due no_choice) }
     ensures did { IfOk result (IsStepOf step.old.work.table (entry actor (Finish tid)) step.new) }

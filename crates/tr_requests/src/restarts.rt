@@ -159,7 +159,6 @@ pub fn check_detach(table: &Table, actor: u32, tid: u32, sig: u8) -> Result<Chec
 /// A detach from a tracee that is due: `PTRACE_DETACH`, a restart as by `PTRACE_CONT`, after which nobody traces the
 /// thread. Where a group-stop is in effect it is stopped and takes part. Where memory is refused, or the numbers are
 /// used up, nothing has changed.
-#[inline(always)]
 pub fn detach(step: &mut Step, actor: u32, tid: u32, sig: u8) -> Result<Reply, AllocError>
     requires due { check step.old.work.table actor (Detach tid sig) ≡ Ok (Due no_choice) }
     ensures did { IfOk result
@@ -201,7 +200,6 @@ pub fn check_listen(table: &Table, actor: u32, tid: u32) -> Result<Checked, Refu
 /// A listen that is due: `PTRACE_LISTEN`. The tracee stays out of its program and listens for marks, and its part in a
 /// group-stop stays; a report that no wait has consumed is withdrawn. Where memory is refused, or the numbers are used
 /// up, nothing has changed.
-#[inline(always)]
 pub fn listen(step: &mut Step, actor: u32, tid: u32) -> Result<Reply, AllocError>
     requires due { check step.old.work.table actor (Listen tid) ≡ Ok (Due no_choice) }
     ensures did { IfOk result (IsStepOf step.old.work.table (entry actor (Listen tid)) step.new) }

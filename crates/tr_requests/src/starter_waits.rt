@@ -285,7 +285,6 @@ fn starter_takes(step: &mut Step, thread: &Option<Thread>, group: &Option<Group>
 /// A wait of the starter that is due, for the report of this number: waitpid(2) with `WNOHANG`. A leader whose death is
 /// told goes, and the group with its last thread; a note that is told is gone then. Where memory is refused, or the
 /// numbers are used up, nothing has changed.
-#[inline(always)]
 pub fn starter_wait(
     step: &mut Step,
     actor: u32,

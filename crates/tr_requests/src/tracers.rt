@@ -148,7 +148,6 @@ pub fn check_tracer_exit(table: &Table, actor: u32) -> Result<Checked, Refusal>
 /// table order; then each tracee is left, in table order: detached with the number that it holds, else with 0. A dead one
 /// goes, but a leader stays, and its report passes to the starter. Where memory is refused, or the numbers are used up,
 /// nothing has changed.
-#[inline(always)]
 pub fn tracer_exit(step: &mut Step, alloc: Global, actor: u32) -> Result<Reply, AllocError>
     requires due { check step.old.work.table actor TracerExit ≡ Ok (Due no_choice) }
     ensures did { IfOk result (IsStepOf step.old.work.table (entry actor TracerExit) step.new) }

@@ -101,7 +101,6 @@ pub fn check_attach(table: &Table, tid: u32) -> Result<Checked, Refusal>
 /// An attach that is due: `PTRACE_ATTACH`. The actor traces the thread, which is sent SIGSTOP; a stopped thread is then
 /// in the ptrace-stop of its group-stop. The reply has the number of the SIGSTOP, and its fate right after the step.
 /// Where memory is refused, or the numbers are used up, nothing has changed.
-#[inline(always)]
 pub fn attach(step: &mut Step, actor: u32, tid: u32) -> Result<Reply, AllocError>
     requires due { check step.old.work.table actor (Attach tid) ≡ Ok (Due no_choice) }
     ensures did { IfOk result (IsStepOf step.old.work.table (entry actor (Attach tid)) step.new) }
@@ -142,7 +141,6 @@ pub fn check_seize(table: &Table, tid: u32, options: Options) -> Result<Checked,
 
 /// A seizure that is due: `PTRACE_SEIZE`. The actor traces the thread, with these options; nothing is sent. A stopped
 /// thread is then in `PTRACE_EVENT_STOP`. Where memory is refused, or the numbers are used up, nothing has changed.
-#[inline(always)]
 pub fn seize(step: &mut Step, actor: u32, tid: u32, options: Options) -> Result<Reply, AllocError>
     requires due { check step.old.work.table actor (Seize tid options) ≡ Ok (Due no_choice) }
     ensures did { IfOk result
@@ -204,7 +202,6 @@ pub fn check_set_options(
 
 /// New options for a tracee that are due: `PTRACE_SETOPTIONS` replaces the former ones. Where memory is refused, or the
 /// numbers are used up, nothing has changed.
-#[inline(always)]
 pub fn set_options(
     step: &mut Step,
     actor: u32,

@@ -75,7 +75,6 @@ pub fn check_set_action(table: &Table, tid: u32, sig: u8, how: Action) -> Result
 
 /// A setting of an action that is due: sigaction(2). A new action that ignores flushes what waits of the signal in all
 /// queues of the group. Where memory is refused, or the numbers are used up, nothing has changed.
-#[inline(always)]
 pub fn set_action(
     step: &mut Step,
     actor: u32,

@@ -119,7 +119,6 @@ pub fn check_tgkill(table: &Table, tgid: u32, tid: u32, sig: u8) -> Result<Check
 
 /// A tgkill(2) that is due: `SI_TKILL`, by the actor, for one thread. Where memory is refused, or the numbers are used
 /// up, nothing has changed.
-#[inline(always)]
 pub fn tgkill(
     step: &mut Step,
     actor: u32,

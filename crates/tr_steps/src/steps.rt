@@ -154,7 +154,6 @@ impl Step {
 
     /// Begins a step, with places for n moves and one more for each group. Where memory is refused, or the numbers are
     /// used up, the table stays as it was.
-    #[inline(always)]
     pub fn begin(&mut self, n: usize) -> Result<(), AllocError>
         ensures work { self.new.work ≡ begin self.old.work.table }
         ensures taken_from { self.new.taken_from ≡ None }
@@ -167,7 +166,6 @@ impl Step {
         }
     }
 
-    #[inline(always)]
     fn clear(&mut self)
         ensures { self.new ≡ begun self.old.work.table }
     {
@@ -181,7 +179,6 @@ impl Step {
     }
 
     /// Places in an empty log for all that so many moves may log, and in the table for all that they may queue.
-    #[inline(always)]
     fn grow(&mut self, moves: usize) -> Result<(), AllocError>
         requires empty { self.old ≡ begun self.old.work.table }
         requires numbers { CanNumber self.old.work.table moves }
