@@ -1,4 +1,4 @@
-ghost use Rattle.std.specs.Prelude.{◌≡◌, ◌≤◌, ◌<◌, ◌+◌, ◌++◌, ◌∷◌, ◌^◌, [], ℕ, false, length, not, option_copied, slice_get, true, vec_len, vec_capacity, OnOk};
+ghost use Rattle.std.specs.Prelude.{◌≡◌, ◌↔◌, ◌≤◌, ◌<◌, ◌+◌, ◌++◌, ◌∷◌, ◌^◌, [], ℕ, IsTrue, false, length, not, option_copied, slice_get, vec_len, vec_capacity, OnOk};
 ghost use Rattle.tr_kernel.specs.Notes.{exec_fact, is_some_group, is_stop_status, shows_stop, stop_fact, times};
 ghost use Rattle.tr_kernel.specs.Private.{AreTransferred, IsPlain, killed_in, fact_after, fact_before, fact_in, note_with, transfers_in};
 
@@ -235,7 +235,7 @@ fn append_all(list: &mut Vec<u32>, more: &[u32])
 /// killed, and no id passed on.
 #[inline(always)]
 fn is_plain(step: &Step) -> bool
-    ensures { result ≡ true → IsPlain step.now }
+    ensures { IsTrue result ↔ IsPlain step.now }
 {
     step.taken_from().is_none()
         && step.dying().is_empty()
