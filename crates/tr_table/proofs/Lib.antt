@@ -37,3 +37,4 @@ pub mod Onlys
 pub mod ThreadLists
 pub mod Targets
 pub mod Moving
+pub mod Written

@@ -1,5 +1,5 @@
 -- The lines and the queues of all that waits. A line is what waits of one signal for one target.
-use Rattle.std.specs.Prelude.{◌≡◌, ℕ, ◌+◌, ◌<◌, Bool, ◌&&◌, ◌==◌, List, [], ◌∷◌, Option, Some, None, filter, length}
+use Rattle.std.specs.Prelude.{◌≡◌, ℕ, ◌+◌, Bool, ◌&&◌, ◌==◌, List, [], ◌∷◌, Option, Some, None, filter, if◌then◌else◌, length}
 use Rattle.indexmap.specs.IndexMap.{IndexMap, get}
 use Rattle.tr_pending.specs.declared.instance.Instance.{Instance}
 use Rattle.tr_pending.specs.Waiting.{IsMask}
@@ -16,9 +16,14 @@ use Rattle.tr_table.specs.Queues.{is_one}
 abbrev pub same_key : LineKey → LineKey → Bool
 same_key a b = same_target a.target b.target && a.signal == b.signal
 
--- what is kept of the line of a target's signal
+-- nothing, where nothing waits in the line
+abbrev pub unless_empty : Option Line → Option Line
+unless_empty None = None
+unless_empty (Some l) = if l.count == 0 then None else Some l
+
+-- what is kept of the line of a target's signal; nothing of an empty one
 abbrev pub line_at : {S : Type 0} → IndexMap LineKey Line S → Target → ℕ → Option Line
-line_at m q s = get same_key m (record { target = q; signal = s })
+line_at m q s = unless_empty (get same_key m (record { target = q; signal = s }))
 
 -- what is kept of the queue of a target
 abbrev pub queue_at : {S : Type 0} → IndexMap Target Queue S → Target → Option Queue
@@ -38,10 +43,10 @@ abbrev pub line_of : List Waiting → Option Line
 line_of [] = None
 line_of (w ∷ ws) = Some (record { first = w.instance.n; count = 1 + length ws })
 
--- what is kept of a queue of these instances; nothing of an empty one
+-- what is kept of a queue of these instances; maybe nothing of an empty one
 abbrev pub IsQueue : Option Queue → List Instance → Type 0
 IsQueue None is = is ≡ []
-IsQueue (Some x) is = (x.count ≡ length is) × (0 < length is) × IsMask x.mask is
+IsQueue (Some x) is = (x.count ≡ length is) × IsMask x.mask is
 
 -- for each target and signal its line, and for each target its queue
 pub record AreLines {S R : Type 0} (lines : IndexMap LineKey Line S) (queues : IndexMap Target Queue R) (ws : List Waiting) : Type 0 where

@@ -6,7 +6,7 @@ ghost use Rattle.tr_model.specs.declared.rows.Target.{Target};
 ghost use Rattle.tr_model.specs.declared.rows.Waiting.{Waiting};
 ghost use Rattle.tr_pending.specs.Waiting.{is_waiting};
 ghost use Rattle.tr_pending.specs.declared.instance.Instance.{Instance};
-ghost use Rattle.tr_table.specs.Lines.{AreLines, IsQueue, first_number, is_key, line_at, line_of, longer, queue_at};
+ghost use Rattle.tr_table.specs.Lines.{AreLines, IsQueue, first_number, is_key, line_at, line_of, longer, queue_at, unless_empty};
 ghost use Rattle.tr_table.specs.Queues.{is_one};
 ghost use Rattle.tr_table.specs.Slots.{line_in, standing};
 ghost use Rattle.tr_table.specs.declared.lines.Line.{Line};
@@ -28,81 +28,85 @@ pub(crate) struct LineKey {
     pub(crate) signal: u8,
 }
 
-/// A line that isn't empty: the number of its first instance, and how many it has.
+/// A line: the number of its first instance, and how many it has. An empty one may stay, and has no first.
 #[derive(Clone, Copy, Debug)]
 pub(crate) struct Line {
     pub(crate) first: u64,
     pub(crate) count: usize,
 }
 
-/// What waits for a target, where something does: of which signals, and how many instances.
+/// What waits for a target: of which signals, and how many instances.
 #[derive(Clone, Copy, Debug)]
 pub(crate) struct Queue {
     pub(crate) mask: SigSet,
     pub(crate) count: usize,
 }
 
-/// What is kept of a line. The line that came last is looked at first.
+const EMPTY: Line = Line { first: 0, count: 0 };
+
+/// The value of a key. The key that came last is looked at first.
+#[inline(always)]
+pub(crate) fn find<K: Eq + Hash, V: Copy>(map: &IndexMap<K, V, WordHashing>, key: &K) -> Option<V>
+    ensures { result ≡ get K.eq map.now key.now }
+{
+    match map.get_index(map.len().saturating_sub(1)) {
+        Some((last, value)) if *last == *key => Some(*value),
+        _ => find_other(map, key),
+    }
+}
+
+#[inline(never)]
+fn find_other<K: Eq + Hash, V: Copy>(map: &IndexMap<K, V, WordHashing>, key: &K) -> Option<V>
+    ensures { result ≡ get K.eq map.now key.now }
+{
+    map.get(key).copied()
+}
+
+/// Writes the value of a key that the map has. The key that came last is looked at first.
+#[inline(always)]
+fn rewrite<K: Eq + Hash + Drop, V: Drop>(map: &mut IndexMap<K, V, WordHashing>, key: &K, value: V)
+    requires { is_some (get K.eq map.old key.now) ≡ true }
+    ensures get { (k : K)
+        → get K.eq map.new k ≡ (if K.eq key.now k then Some value else get K.eq map.old k) }
+    ensures spare { spare map.new ≡ spare map.old }
+    ensures len { index_map_len map.new ≡ index_map_len map.old }
+{
+    let last = map.len().saturating_sub(1);
+    match map.get_index(last) {
+        Some((found, _)) if *found == *key => {
+            if let Some(kept) = map.get_index_mut(last) {
+                *kept = value;
+            }
+        }
+        _ => rewrite_other(map, key, value),
+    }
+}
+
+#[inline(never)]
+fn rewrite_other<K: Eq + Hash + Drop, V: Drop>(
+    map: &mut IndexMap<K, V, WordHashing>,
+    key: &K,
+    value: V,
+)
+    requires { is_some (get K.eq map.old key.now) ≡ true }
+    ensures get { (k : K)
+        → get K.eq map.new k ≡ (if K.eq key.now k then Some value else get K.eq map.old k) }
+    ensures spare { spare map.new ≡ spare map.old }
+    ensures len { index_map_len map.new ≡ index_map_len map.old }
+{
+    if let Some(kept) = map.get_mut(key) {
+        *kept = value;
+    }
+}
+
+/// What is kept of a line, where something waits in it.
 #[inline(always)]
 pub(crate) fn find_line(lines: &IndexMap<LineKey, Line, WordHashing>, key: &LineKey) -> Option<Line>
     ensures { result ≡ line_at lines.now key.now.target key.now.signal }
 {
-    match lines.get_index(lines.len().saturating_sub(1)) {
-        Some((last, line)) if last == key => Some(*line),
-        _ => find_other_line(lines, key),
-    }
-}
-
-#[inline(never)]
-fn find_other_line(lines: &IndexMap<LineKey, Line, WordHashing>, key: &LineKey) -> Option<Line>
-    ensures { result ≡ line_at lines.now key.now.target key.now.signal }
-{
-    lines.get(key).copied()
-}
-
-/// What is kept of the queue of a target. The queue that came last is looked at first.
-#[inline(always)]
-pub(crate) fn find_queue(
-    queues: &IndexMap<Target, Queue, WordHashing>,
-    target: Target,
-) -> Option<Queue>
-    ensures { result ≡ queue_at queues.now target }
-{
-    match queues.get_index(queues.len().saturating_sub(1)) {
-        Some((last, queue)) if *last == target => Some(*queue),
-        _ => find_other_queue(queues, target),
-    }
-}
-
-#[inline(never)]
-fn find_other_queue(queues: &IndexMap<Target, Queue, WordHashing>, target: Target) -> Option<Queue>
-    ensures { result ≡ queue_at queues.now target }
-{
-    queues.get(&target).copied()
-}
-
-/// Writes the value of a key that the map has, or takes the key out.
-pub(crate) fn rewrite<K: Eq + Hash + Drop, V: Drop>(
-    map: &mut IndexMap<K, V, WordHashing>,
-    key: &K,
-    value: Option<V>,
-)
-    requires { is_some (get K.eq map.old key.now) ≡ true }
-    ensures get { (k : K)
-        → get K.eq map.new k ≡ (if K.eq key.now k then value else get K.eq map.old k) }
-    ensures spare { spare map.old ≤ spare map.new }
-    ensures places { index_map_len map.old + spare map.old
-        ≤ index_map_len map.new + spare map.new + (if is_some value then 0 else 1) }
-{
-    match value {
-        Some(value) => {
-            if let Some(kept) = map.get_mut(key) {
-                *kept = value;
-            }
-        }
-        None => {
-            let _taken = map.swap_remove(key);
-        }
+    match find(lines, key) {
+        Some(line) if line.count != 0 => Some(line),
+        _ => None,
     }
 }
 
@@ -133,8 +137,8 @@ pub(crate) fn enter_line(lines: &mut IndexMap<LineKey, Line, WordHashing>, waiti
         ≤ index_map_len lines.new + spare lines.new }
 {
     let key = key_of(waiting);
-    match lines.get_mut(&key) {
-        Some(line) => line.count += 1,
+    match find(lines, &key) {
+        Some(line) => rewrite(lines, &key, longer(&line, waiting.instance.n)),
         None => {
             let line = Line {
                 first: waiting.instance.n,
@@ -142,6 +146,17 @@ pub(crate) fn enter_line(lines: &mut IndexMap<LineKey, Line, WordHashing>, waiti
             };
             let _none = lines.insert(key, line).unwrap();
         }
+    }
+}
+
+/// A line with one more instance, which comes last.
+fn longer(line: &Line, n: u64) -> Line
+    requires { line.now.count + 1 < 2 ^ 64 }
+    ensures { result ≡ longer n (unless_empty (Some line.now)) }
+{
+    Line {
+        first: if line.count == 0 { n } else { line.first },
+        count: line.count + 1,
     }
 }
 
@@ -162,8 +177,8 @@ pub(crate) fn enter_queue(queues: &mut IndexMap<Target, Queue, WordHashing>, wai
     ensures places { index_map_len queues.old + spare queues.old
         ≤ index_map_len queues.new + spare queues.new }
 {
-    match queues.get_mut(&waiting.target) {
-        Some(queue) => widen(queue, &waiting.instance),
+    match find(queues, &waiting.target) {
+        Some(queue) => rewrite(queues, &waiting.target, wider(&queue, &waiting.instance)),
         None => {
             let queue = Queue {
                 mask: SigSet::empty().with(waiting.instance.sig),
@@ -174,15 +189,17 @@ pub(crate) fn enter_queue(queues: &mut IndexMap<Target, Queue, WordHashing>, wai
     }
 }
 
-/// A queue has one more instance, which comes last.
-fn widen(queue: &mut Queue, instance: &Instance)
-    requires { queue.old.count + 1 < 2 ^ 64 }
+/// A queue with one more instance, which comes last.
+fn wider(queue: &Queue, instance: &Instance) -> Queue
+    requires { queue.now.count + 1 < 2 ^ 64 }
     ensures { (is : List Instance)
-        → IsQueue (Some queue.old) is
-        → IsQueue (Some queue.new) (is ++ instance.now ∷ []) }
+        → IsQueue (Some queue.now) is
+        → IsQueue (Some result) (is ++ instance.now ∷ []) }
 {
-    queue.mask = queue.mask.with(instance.sig);
-    queue.count += 1;
+    Queue {
+        mask: queue.mask.with(instance.sig),
+        count: queue.count + 1,
+    }
 }
 
 /// The number of the first that waits of one signal for one target, in these slots.
@@ -198,24 +215,23 @@ fn first_of_line(slots: &[Slot], target: Target, signal: Signal) -> Option<u64>
 }
 
 /// What is left of a line where an instance goes; `after` are the slots after that of the instance.
-fn left_of(line: &Line, waiting: &Waiting, after: &[Slot]) -> Option<Line>
+fn left_of(line: &Line, waiting: &Waiting, after: &[Slot]) -> Line
     ensures { (before : List Waiting)
         → IsSorted (before ++ waiting.now ∷ line_in waiting.now after.now)
         → Some line.now ≡ line_of (before ++ waiting.now ∷ line_in waiting.now after.now)
-        → result ≡ line_of (before ++ line_in waiting.now after.now) }
+        → unless_empty (Some result) ≡ line_of (before ++ line_in waiting.now after.now) }
 {
     if line.count <= 1 {
-        return None;
+        return EMPTY;
     }
-    let first = if line.first == waiting.instance.n {
-        first_of_line(after, waiting.target, waiting.instance.sig)?
-    } else {
-        line.first
-    };
-    Some(Line {
-        first,
-        count: line.count - 1,
-    })
+    let count = line.count - 1;
+    if line.first != waiting.instance.n {
+        return Line { count, ..*line };
+    }
+    match first_of_line(after, waiting.target, waiting.instance.sig) {
+        Some(first) => Line { first, count },
+        None => EMPTY,
+    }
 }
 
 /// Takes an instance out of its line, and says whether the line has others.
@@ -241,13 +257,12 @@ pub(crate) fn leave_line(
         ≤ index_map_len lines.new + spare lines.new + 1 }
 {
     let key = key_of(waiting);
-    let Some(line) = lines.get(&key).copied() else {
+    let Some(line) = find_line(lines, &key) else {
         return false;
     };
     let left = left_of(&line, waiting, after);
-    let stays = left.is_some();
     rewrite(lines, &key, left);
-    stays
+    left.count != 0
 }
 
 /// Takes an instance out of its queue; `stays` says whether others of its signal wait there.
@@ -269,51 +284,52 @@ pub(crate) fn leave_queue(
     ensures places { index_map_len queues.old + spare queues.old
         ≤ index_map_len queues.new + spare queues.new + 1 }
 {
-    if let Some(queue) = queues.get(&waiting.target).copied() {
+    if let Some(queue) = find(queues, &waiting.target) {
         let left = narrower(&queue, waiting.instance.sig, stays);
         rewrite(queues, &waiting.target, left);
     }
 }
 
 /// A queue that has lost an instance of the signal; `stays` says whether it has others of it.
-fn narrower(queue: &Queue, signal: Signal, stays: bool) -> Option<Queue>
+fn narrower(queue: &Queue, signal: Signal, stays: bool) -> Queue
     ensures { (i : Instance) (before after : List Instance)
         → i.sig ≡ signal
         → stays ≡ is_waiting signal (before ++ after)
         → IsQueue (Some queue.now) (before ++ i ∷ after)
-        → IsQueue result (before ++ after) }
+        → IsQueue (Some result) (before ++ after) }
 {
-    if queue.count <= 1 {
-        return None;
-    }
     let mask = if stays {
         queue.mask
     } else {
         queue.mask.without(signal)
     };
-    Some(Queue {
+    Queue {
         mask,
-        count: queue.count - 1,
-    })
+        count: queue.count.saturating_sub(1),
+    }
 }
 
-/// Makes the lines and the queues of all that waits in these slots.
+/// Makes the lines and the queues of all that waits in these slots, and no others.
 pub(crate) fn enter_all(
     lines: &mut IndexMap<LineKey, Line, WordHashing>,
     queues: &mut IndexMap<Target, Queue, WordHashing>,
     slots: &[Slot],
 )
-    requires empty { AreLines lines.old queues.old [] }
-    requires line_room { length (standing slots.now) ≤ spare lines.old }
-    requires queue_room { length (standing slots.now) ≤ spare queues.old }
+    requires line_room { length (standing slots.now) ≤ index_map_len lines.old + spare lines.old }
+    requires queue_room { length (standing slots.now)
+        ≤ index_map_len queues.old + spare queues.old }
     ensures made { AreLines lines.new queues.new (standing slots.now) }
-    ensures line_spare { spare lines.old ≤ spare lines.new + length (standing slots.now) }
-    ensures queue_spare { spare queues.old ≤ spare queues.new + length (standing slots.now) }
+    ensures line_spare { index_map_len lines.old + spare lines.old
+        ≤ spare lines.new + length (standing slots.now) }
+    ensures queue_spare { index_map_len queues.old + spare queues.old
+        ≤ spare queues.new + length (standing slots.now) }
     ensures line_places { index_map_len lines.old + spare lines.old
         ≤ index_map_len lines.new + spare lines.new }
     ensures queue_places { index_map_len queues.old + spare queues.old
         ≤ index_map_len queues.new + spare queues.new }
 {
+    lines.clear();
+    queues.clear();
     for slot in slots {
         if !slot.gone {
             enter_line(lines, &slot.waiting);

@@ -12,7 +12,7 @@ ghost use Rattle.tr_table.specs.declared.slots.Slot.{Slot};
 
 use crate::hashing::WordHashing;
 use crate::lines::{
-    Line, LineKey, Queue, enter_all, enter_line, enter_queue, find_line, find_queue, leave_line,
+    Line, LineKey, Queue, enter_all, enter_line, enter_queue, find, find_line, leave_line,
     leave_queue,
 };
 use crate::picked::{Flush, Picked, is_picked, log_picked};
@@ -24,6 +24,9 @@ use std::hash::BuildHasherDefault;
 use tr_model::{Ending, Target, Waiting};
 use tr_pending::Instance;
 use tr_sigset::{SigSet, Signal};
+
+/// How many empty lines may stay, and as many again as instances wait.
+const MOST_EMPTY: usize = 64;
 
 /// One of a thread's own queue, none of a group's.
 fn own_share(target: Target) -> usize
@@ -105,7 +108,7 @@ impl Pending {
         if !self.may_wait(target) {
             return None;
         }
-        find_queue(&self.queues, target)
+        find(&self.queues, &target)
     }
 
     /// How many instances wait for the target.
@@ -253,6 +256,19 @@ impl Pending {
         self.remove(first)
     }
 
+    /// Drops the empty lines and queues, where they have become many.
+    fn drop_empty(&mut self)
+        requires { IsPending self.old }
+        ensures kept { IsPending self.new }
+        ensures slots { self.new.slots ≡ self.old.slots }
+        ensures count { self.new.count ≡ self.old.count }
+        ensures room { self.new.room ≡ self.old.room }
+    {
+        if (self.lines.len() / 2).saturating_sub(MOST_EMPTY) > self.count {
+            enter_all(&mut self.lines, &mut self.queues, &self.slots);
+        }
+    }
+
     /// Makes places for this many more. Where memory is refused, what waits and what is promised stays.
     pub(crate) fn reserve(&mut self, more: usize) -> Result<(), AllocError>
         requires { IsPending self.old }
@@ -267,6 +283,7 @@ impl Pending {
             return Ok(());
         }
         let all = self.count.checked_add(more).ok_or(AllocError)?;
+        self.drop_empty();
         if self.slots.len() / 2 > self.count {
             close_up(&mut self.slots);
         }
@@ -291,8 +308,6 @@ impl Pending {
             return;
         }
         retarget(&mut self.slots, from, to);
-        self.lines.clear();
-        self.queues.clear();
         enter_all(&mut self.lines, &mut self.queues, &self.slots);
     }
 

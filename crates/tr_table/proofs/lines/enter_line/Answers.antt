@@ -1,39 +1,35 @@
-use Rattle.std.proofs.Common.{◌≡◌, ◌∙◌, ◌+◌, None, Some, if◌then◌else◌, ap, arith, rules, subst}
+use Rattle.std.proofs.Common.{◌≡◌, ◌∙◌, None, Some, if◌then◌else◌, ap, rules, sym}
 use Rattle.indexmap.specs.IndexMap.{get}
 use Rattle.tr_table.specs.contracts.lines.LineKeyPartialEq.TheImpl as key_test
 use Rattle.tr_table.specs.declared.lines.Line.{Line}
 use Rattle.tr_table.specs.declared.lines.LineKey.{LineKey}
-use Rattle.tr_table.specs.Lines.{is_key, line_at, longer, same_key}
-use Rattle.tr_table.proofs.Keys.{by_key}
+use Rattle.tr_table.specs.Lines.{is_key, line_at, longer, unless_empty}
+use Rattle.tr_table.proofs.Written.{line_found, line_written, longer_few, longer_stays}
 use Rattle.tr_table.proofs.lines.enter_line.Goals as goal
 
-pub overflow_add-line : goal.overflow_add-line
-overflow_add-line c =
+pub longer-requires : goal.longer-requires
+longer-requires c =
     let w = c.args.waiting.now in
-    let found : line_at c.args.lines.now w.target w.instance.sig ≡ Some c.in-Some.line.now = search rules in
-    let few = c.requires.few c.in-Some.line.now found in
-    omega (arith, few)
+    let here = line_found c.args.lines.now w c.key_of-key.result (Some c.in-Some.line) c.key_of-key.ensures (sym c.find.ensures ∙ c.in-Some.is) in
+    longer_few c.in-Some.line (line_at c.args.lines.now w.target w.instance.sig) here c.requires.few
 
 pub returns-in-Some-clause-get : goal.returns-in-Some-clause-get
 returns-in-Some-clause-get c =
     let w = c.args.waiting.now in
-    let line : Line = record c.in-Some.line.now { count = c.in-Some.line.now.count + 1 } in
-    let found : Some c.in-Some.line.now ≡ line_at c.args.lines.now w.target w.instance.sig = search rules in
-    λ q s.
-    let k : LineKey = record { target = q; signal = s } in
-    let wrote : get key_test.ghosts.eq (c.get_mut.follows.lender line) k ≡ (if key_test.ghosts.eq c.key_of-key.result k then Some line else get key_test.ghosts.eq c.args.lines.now k) = search rules in
-    subst (λ eq. get eq (c.get_mut.follows.lender line) k ≡ (if eq c.key_of-key.result k then Some line else get eq c.args.lines.now k)) by_key wrote
-    ∙ (ap (λ a. if same_key a k then Some line else line_at c.args.lines.now q s) c.key_of-key.ensures
-    ∙ ap (λ l. if is_key w q s then Some (longer w.instance.n l) else line_at c.args.lines.now q s) found)
+    let L = c.args.lines.now in
+    let key = c.key_of-key.result in
+    let here = line_found L w key (Some c.in-Some.line) c.key_of-key.ensures (sym c.find.ensures ∙ c.in-Some.is) in
+    let line = c.longer.ensures ∙ ap (longer w.instance.n) (sym here) in
+    λ q s. line_written L c.rewrite.new.map w key c.longer.result c.key_of-key.ensures c.rewrite.ensures.get q s
+    ∙ ap (λ l. if is_key w q s then l else line_at L q s) (ap (λ l. unless_empty (Some l)) line ∙ longer_stays w.instance.n (line_at L w.target w.instance.sig))
 
 pub returns-in-None-clause-get : goal.returns-in-None-clause-get
 returns-in-None-clause-get c =
     let w = c.args.waiting.now in
+    let L = c.args.lines.now in
+    let key = c.key_of-key.result in
+    let here = line_found L w key None c.key_of-key.ensures (sym c.find.ensures ∙ c.in-None.is) in
     let line : Line = record { first = w.instance.n; count = 1 } in
-    let none : None ≡ line_at c.args.lines.now w.target w.instance.sig = search rules in
-    λ q s.
-    let k : LineKey = record { target = q; signal = s } in
-    let wrote : get key_test.ghosts.eq c.insert.new.self k ≡ (if key_test.ghosts.eq c.key_of-key.result k then Some line else get key_test.ghosts.eq c.args.lines.now k) = search rules in
-    subst (λ eq. get eq c.insert.new.self k ≡ (if eq c.key_of-key.result k then Some line else get eq c.args.lines.now k)) by_key wrote
-    ∙ (ap (λ a. if same_key a k then Some line else line_at c.args.lines.now q s) c.key_of-key.ensures
-    ∙ ap (λ l. if is_key w q s then Some (longer w.instance.n l) else line_at c.args.lines.now q s) none)
+    let wrote : (k : LineKey) → get key_test.ghosts.eq c.insert.new.self k ≡ (if key_test.ghosts.eq key k then Some line else get key_test.ghosts.eq L k) = λ k. search rules in
+    λ q s. line_written L c.insert.new.self w key line c.key_of-key.ensures wrote q s
+    ∙ ap (λ l. if is_key w q s then Some (longer w.instance.n l) else line_at L q s) (sym here)

@@ -19,14 +19,14 @@ enter_all-requires-clause-line_room c =
     let ss : List Slot = c.args.self.now.slots.items in
     let moved : c.deref.result.now ≡ map (retargeted_slot c.args.from c.args.to) ss = c.deref.ensures.value ∙ c.retarget.ensures.items in
     let n = ap length (ap standing moved ∙ standing_retargeted c.args.from c.args.to ss) ∙ length-map (standing ss) (retargeted c.args.from c.args.to) in
-    omega (arith, n, c.requires.counted, c.requires.line_places.anew, c.clear.ensures.capacity)
+    omega (arith, n, c.requires.counted, c.requires.line_places.anew)
 
 pub enter_all-requires-clause-queue_room : goal.enter_all-requires-clause-queue_room
 enter_all-requires-clause-queue_room c =
     let ss : List Slot = c.args.self.now.slots.items in
     let moved : c.deref.result.now ≡ map (retargeted_slot c.args.from c.args.to) ss = c.deref.ensures.value ∙ c.retarget.ensures.items in
     let n = ap length (ap standing moved ∙ standing_retargeted c.args.from c.args.to ss) ∙ length-map (standing ss) (retargeted c.args.from c.args.to) in
-    omega (arith, n, c.requires.counted, c.requires.queue_places.anew, c.clear-2.ensures.capacity)
+    omega (arith, n, c.requires.counted, c.requires.queue_places.anew)
 
 pub returns-clause-waiting : goal.returns-clause-waiting
 returns-clause-waiting c = ap standing c.retarget.ensures.items ∙ standing_retargeted c.args.from c.args.to c.args.self.now.slots.items
@@ -48,11 +48,11 @@ returns-clause-kept c =
       small = k.small;
       slot_places = omega (arith, k.slot_places, c.retarget.ensures.len, c.retarget.ensures.capacity);
       line_places = record {
-        more = omega (arith, n, m, k.counted, k.line_places.anew, c.clear.ensures.capacity, c.enter_all.ensures.line_spare);
-        anew = omega (arith, k.line_places.anew, c.clear.ensures.capacity, c.enter_all.ensures.line_places);
+        more = omega (arith, n, m, k.counted, k.line_places.anew, c.enter_all.ensures.line_spare);
+        anew = omega (arith, k.line_places.anew, c.enter_all.ensures.line_places);
       };
       queue_places = record {
-        more = omega (arith, n, m, k.counted, k.queue_places.anew, c.clear-2.ensures.capacity, c.enter_all.ensures.queue_spare);
-        anew = omega (arith, k.queue_places.anew, c.clear-2.ensures.capacity, c.enter_all.ensures.queue_places);
+        more = omega (arith, n, m, k.counted, k.queue_places.anew, c.enter_all.ensures.queue_spare);
+        anew = omega (arith, k.queue_places.anew, c.enter_all.ensures.queue_places);
       };
     }
