@@ -1,4 +1,4 @@
-ghost use Rattle.std.specs.Prelude.{◌≡◌, ◌+◌, ◌≤◌, IfSome, None, OnOk, Some, length};
+ghost use Rattle.std.specs.Prelude.{◌≡◌, ◌+◌, ◌-◌, ◌^◌, ◌≤◌, IfSome, None, OnOk, Some, false, length, min, true};
 ghost use Rattle.std.specs.Option.{SomeIff};
 ghost use Rattle.tr_model.specs.Moves.{begin};
 ghost use Rattle.tr_model.specs.Tables.{thread_of};
@@ -160,10 +160,11 @@ impl Step {
         ensures room { OnOk result (length self.new.work.table.groups + n ≤ self.new.room) }
     {
         self.clear();
-        match all_moves(&self.table, n) {
-            Some(moves) => self.grow(moves),
-            None => Err(AllocError),
+        let moves = all_moves(&self.table, n).ok_or(AllocError)?;
+        if self.reuse(moves) {
+            return Ok(());
         }
+        self.grow(moves)
     }
 
     fn clear(&mut self)
@@ -178,7 +179,43 @@ impl Step {
         self.taken_from = None;
     }
 
+    /// How much may end in a step of so many moves: all that waits, what each thread may hold, and what the moves accept.
+    fn most_ended(&self, moves: usize) -> usize
+        ensures { result ≡ min (2 ^ 64 - 1) (length self.now.work.table.waiting
+            + length self.now.work.table.threads + moves) }
+    {
+        self.table
+            .queued()
+            .saturating_add(self.table.thread_count())
+            .saturating_add(moves)
+    }
+
+    /// Takes the places that earlier steps have left in an empty log, where they are enough for so many moves.
+    #[inline(always)]
+    fn reuse(&mut self, moves: usize) -> bool
+        requires empty { self.old ≡ begun self.old.work.table }
+        requires numbers { CanNumber self.old.work.table moves }
+        ensures work { self.new.work ≡ self.old.work }
+        ensures taken_from { self.new.taken_from ≡ self.old.taken_from }
+        ensures room { result ≡ true → self.new.room ≡ moves }
+        ensures unchanged { result ≡ false → self.new ≡ self.old }
+    {
+        let lists = self.raises.capacity().min(self.dying.capacity());
+        let lists = lists
+            .min(self.killed.capacity())
+            .min(self.renamed.capacity());
+        if lists < moves || self.ended.capacity() < self.most_ended(moves) {
+            return false;
+        }
+        if !self.table.has_room(moves) {
+            return false;
+        }
+        self.room = moves;
+        true
+    }
+
     /// Places in an empty log for all that so many moves may log, and in the table for all that they may queue.
+    #[inline(never)]
     fn grow(&mut self, moves: usize) -> Result<(), AllocError>
         requires empty { self.old ≡ begun self.old.work.table }
         requires numbers { CanNumber self.old.work.table moves }
@@ -186,11 +223,8 @@ impl Step {
         ensures taken_from { self.new.taken_from ≡ self.old.taken_from }
         ensures room { OnOk result (self.new.room ≡ moves) }
     {
-        let can_end = self
-            .table
-            .queued()
-            .saturating_add(self.table.thread_count());
-        self.ended.reserve(can_end.saturating_add(moves))?;
+        let can_end = self.most_ended(moves);
+        self.ended.reserve(can_end)?;
         self.raises.reserve(moves)?;
         self.dying.reserve(moves)?;
         self.killed.reserve(moves)?;

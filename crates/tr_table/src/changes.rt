@@ -1,4 +1,4 @@
-ghost use Rattle.std.specs.Prelude.{◌≡◌, ◌+◌, ◌<◌, ◌≤◌, ◌^◌, ◌++◌, ◌==◌, ◌∷◌, [], IsTrue, OnErr, OnOk, filter, flat_map, length, map, not, vec_len, vec_capacity};
+ghost use Rattle.std.specs.Prelude.{◌≡◌, ◌+◌, ◌<◌, ◌≤◌, ◌^◌, ◌++◌, ◌==◌, ◌∷◌, [], IsTrue, OnErr, OnOk, filter, flat_map, length, map, not, vec_len, vec_capacity, nat_le};
 ghost use Rattle.tr_model.specs.declared.fates.Fate.TheVariants.{Delivered, Flushed};
 ghost use Rattle.tr_model.specs.declared.rows.Target.TheVariants as target;
 ghost use Rattle.tr_model.specs.Moves.{changed, ended_by_change, ending_of, group_changed, instance_in, only_group, with_note, without_instance};
@@ -24,6 +24,13 @@ use tr_wait::Status;
 
 impl Table {
     ghost use Rattle.tr_table.specs.View.{View};
+
+    /// Whether so many places are reserved.
+    pub fn has_room(&self, places: usize) -> bool
+        ensures { result ≡ nat_le places self.now.room }
+    {
+        places <= self.pending.room
+    }
 
     /// Reserves places for this many more instances, whatever they wait for. Where memory is refused nothing has changed.
     pub fn reserve(&mut self, more: usize) -> Result<(), AllocError>

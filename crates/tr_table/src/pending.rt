@@ -28,6 +28,9 @@ use tr_sigset::{SigSet, Signal};
 /// How many empty lines may stay, and as many again as instances wait.
 const MOST_EMPTY: usize = 64;
 
+/// For how many more instances at least there are places where some are made.
+const FEWEST_PLACES: usize = 16;
+
 /// One of a thread's own queue, none of a group's.
 fn own_share(target: Target) -> usize
     ensures { result ≡ own_share target }
@@ -282,17 +285,18 @@ impl Pending {
         if more <= self.room {
             return Ok(());
         }
-        let all = self.count.checked_add(more).ok_or(AllocError)?;
+        let places = more.max(FEWEST_PLACES);
+        let all = self.count.checked_add(places).ok_or(AllocError)?;
         self.drop_empty();
         if self.slots.len() / 2 > self.count {
             close_up(&mut self.slots);
         }
-        self.slots.reserve(more)?;
+        self.slots.reserve(places)?;
         let lines = all.saturating_sub(self.lines.len());
-        self.lines.reserve(lines.max(more))?;
+        self.lines.reserve(lines.max(places))?;
         let queues = all.saturating_sub(self.queues.len());
-        self.queues.reserve(queues.max(more))?;
-        self.room = more;
+        self.queues.reserve(queues.max(places))?;
+        self.room = places;
         Ok(())
     }
 
