@@ -64,6 +64,7 @@ impl ThreadChange {
         ensures { result ≡ false → thread_changed_by self.now thread.now ≡ thread.now }
     {
         match self {
+            ThreadChange::Pausing(pausing) => thread.pausing != *pausing,
             ThreadChange::Mark => !thread.stop_mark && !thread.joined && thread.life.is_live(),
             ThreadChange::Continue(in_effect) => {
                 *in_effect || !thread.note_mark && thread.is_seized()
