@@ -45,11 +45,11 @@ told e kept.Done = reply.Done
 told e kept.Exists = reply.Exists
 told e kept.Nothing = reply.Nothing
 told e (kept.Sent fate high low) = reply.Sent fate (high * 2 ^ 32 + low)
-told e (kept.Took info sig did) = reply.Took did (taker e) (record { n = number e.choice.instance; sig = sig; info = info })
+told e (kept.Took did sig info) = reply.Took did (taker e) (record { n = number e.choice.instance; sig = sig; info = info })
 told e (kept.Cloned id) = reply.Cloned id
 told e (kept.Waited id word) = reply.Waited id word (number e.choice.report)
 told e (kept.Message value) = reply.Message value
-told e (kept.Signal info sig) = reply.Signal sig info
+told e (kept.Signal sig info) = reply.Signal sig info
 
 -- of each entry
 abbrev pub all_told : List Entry → List KeptReply → List Reply

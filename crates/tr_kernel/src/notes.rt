@@ -317,12 +317,12 @@ impl Notes {
         {
             return;
         }
-        self.note_made(&fact, step, reply);
+        self.note_made(fact, step, *reply);
     }
 
     /// Notes an entry that may be something to the laws.
     #[inline(never)]
-    fn note_made(&mut self, fact: &EntryFact, step: &Step, reply: &Reply)
+    fn note_made(&mut self, fact: EntryFact, step: &Step, reply: Reply)
         requires list { (0 < self.old.list.room) × (length self.old.list.notes < 2 ^ 32) }
         requires dying { vec_len self.old.dying + length step.now.work.dying
             ≤ vec_capacity self.old.dying }
@@ -331,13 +331,13 @@ impl Notes {
         requires one { length step.now.work.renamed ≤ 1 }
         ensures list { self.new.list.notes
             ≡ self.old.list.notes
-            ++ note_with (fact_after fact.now step.now.taken_from self.old.transfers.items reply.now)
+            ++ note_with (fact_after fact step.now.taken_from self.old.transfers.items reply)
             (length self.old.dying.items) step.now.work ∷ [] }
         ensures dying { self.new.dying.items ≡ self.old.dying.items ++ step.now.work.dying }
         ensures transfers { AreTransferred step.now.work.renamed
             self.old.transfers.items self.new.transfers.items }
     {
-        let fact = fact_after(*fact, reply, step.taken_from(), &self.transfers);
+        let fact = fact_after(fact, &reply, step.taken_from(), &self.transfers);
         append_all(&mut self.dying, step.dying());
         count_first_transfer(&mut self.transfers, step.renamed());
         let note = Note {

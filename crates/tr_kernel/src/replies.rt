@@ -18,11 +18,11 @@ pub(crate) enum KeptReply {
     Exists,
     Nothing,
     Sent { fate: Fate, high: u32, low: u32 },
-    Took { info: Info, sig: Signal, did: Did },
+    Took { did: Did, sig: Signal, info: Info },
     Cloned { tid: u32 },
     Waited { id: u32, word: u32 },
     Message { value: u32 },
-    Signal { info: Info, sig: Signal },
+    Signal { sig: Signal, info: Info },
 }
 
 /// The thread that an entry is a take of.
@@ -50,14 +50,14 @@ pub(crate) fn kept(reply: &Reply) -> KeptReply
             fate,
         },
         Reply::Took { inst, did, .. } => KeptReply::Took {
-            info: inst.info,
-            sig: inst.sig,
             did,
+            sig: inst.sig,
+            info: inst.info,
         },
         Reply::Cloned { tid } => KeptReply::Cloned { tid },
         Reply::Waited { id, word, .. } => KeptReply::Waited { id, word },
         Reply::Message { value } => KeptReply::Message { value },
-        Reply::Signal { sig, info } => KeptReply::Signal { info, sig },
+        Reply::Signal { sig, info } => KeptReply::Signal { sig, info },
     }
 }
 
@@ -74,7 +74,7 @@ impl KeptReply {
                 n: high as u64 * HALF + low as u64,
                 fate,
             },
-            KeptReply::Took { info, sig, did } => Reply::Took {
+            KeptReply::Took { did, sig, info } => Reply::Took {
                 tid: taker(entry),
                 inst: Instance {
                     n: entry.choice.instance().unwrap_or(0),
@@ -90,7 +90,7 @@ impl KeptReply {
                 report: entry.choice.report().unwrap_or(0),
             },
             KeptReply::Message { value } => Reply::Message { value },
-            KeptReply::Signal { info, sig } => Reply::Signal { sig, info },
+            KeptReply::Signal { sig, info } => Reply::Signal { sig, info },
         }
     }
 }

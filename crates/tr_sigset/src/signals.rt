@@ -53,10 +53,11 @@ const NAMED: [Base; 31] = [
     Base::Core, // SYS
 ];
 
-/// A signal. Contracts see its number, 1 to 64, as signal(7) has it on x86 and ARM.
+/// A signal. Contracts see its number, 1 to 64, as signal(7) has it on x86 and ARM. It stands in four bytes, so that an
+/// accepted signal has no hole, which would be copied on its own.
 #[derive(Clone, Copy, Debug, PartialEq, Eq)]
 pub struct Signal {
-    number: u8,
+    number: u32,
 }
 
 impl Model for Signal {
@@ -104,7 +105,9 @@ impl Signal {
         ensures { SomeIff result (IsSignal number) number }
     {
         if 1 <= number && number <= Signal::GREATEST {
-            Some(Signal { number })
+            Some(Signal {
+                number: u32::from(number),
+            })
         } else {
             None
         }
@@ -115,7 +118,7 @@ impl Signal {
         ensures value { result ≡ self }
         ensures range { IsSignal result }
     {
-        self.number
+        self.number as u8
     }
 
     /// What it does by default.
@@ -139,6 +142,6 @@ impl Signal {
     pub fn is_real_time(self) -> bool
         ensures { result ≡ is_real_time self }
     {
-        Signal::LEAST_REAL_TIME <= self.number
+        u32::from(Signal::LEAST_REAL_TIME) <= self.number
     }
 }
