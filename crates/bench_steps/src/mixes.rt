@@ -127,7 +127,7 @@ pub fn crowd(alloc: Global) -> io::Result<Kernel> {
 }
 
 /// How many calls a round of group-stops makes.
-pub const STOPPING: u32 = 67 * 4096;
+pub const STOPPING: u32 = 67 * 60_000;
 
 /// SIGSTOP comes and is taken, each thread halts, and SIGCONT comes.
 #[inline(never)]

@@ -5,13 +5,13 @@ use std::rt::Clock;
 use std::time::Instant;
 
 /// How many steps one round makes.
-pub const STEPS: u64 = 1 << 18;
+pub const STEPS: u64 = 4_000_000;
 
 /// How many steps a round makes whose journal stays in the processor's cache.
 pub const FEW: u64 = 1 << 12;
 
 /// How many steps are timed in all; of their rounds the quickest counts.
-const TIMED: u64 = 15 * STEPS;
+const TIMED: u64 = 3 * STEPS;
 
 /// The time of a step, how many million steps a second that is, and how many of one round's were answered.
 #[derive(Clone, Copy)]
