@@ -16,7 +16,7 @@ use tr_model::{Event, Refusal};
 /// Asks what makes no entry.
 const PROBE: Event = Event::Kill { tgid: 10, sig: 0 };
 
-fn kernel(alloc: Global) -> Result<Kernel, AllocError>
+pub(super) fn kernel(alloc: Global) -> Result<Kernel, AllocError>
     ensures { IfOk result (λ k. k.journal ≡ []) }
 {
     match Kernel::new(alloc, start(alloc)?) {
