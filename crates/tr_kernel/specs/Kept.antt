@@ -1,6 +1,6 @@
 -- What private contracts see of what a kernel keeps beside its table: what is written down, and for how much more there is
 -- room.
-use Rattle.std.specs.Prelude.{◌≡◌, ℕ, ◌+◌, ◌*◌, ◌^◌, ◌<◌, ◌≤◌, ◌==◌, zero, suc, Bool, true, false, not, ◌&&◌, List, [], ◌∷◌, length, get_or, if◌then◌else◌}
+use Rattle.std.specs.Prelude.{◌≡◌, ℕ, ◌+◌, ◌*◌, ◌^◌, ◌<◌, ◌≤◌, ◌==◌, nat_le, zero, suc, Bool, true, false, not, ◌&&◌, List, [], ◌∷◌, length, get_or, if◌then◌else◌}
 use Rattle.tr_model.specs.Choices.{Choice}
 use Rattle.tr_model.specs.declared.events.Entry.{Entry}
 use Rattle.tr_model.specs.declared.events.Event.{Event}
@@ -39,17 +39,21 @@ taker_of _ c = number c.thread
 abbrev pub taker : Entry → ℕ
 taker e = taker_of e.event e.choice
 
+-- the signal of a number that is kept; KILL for the number of none
+abbrev pub signal_of : ℕ → ℕ
+signal_of n = if nat_le 1 n && nat_le n 64 then n else 9
+
 -- the reply of an entry, of which this is kept
 abbrev pub told : Entry → KeptReply → Reply
 told e kept.Done = reply.Done
 told e kept.Exists = reply.Exists
 told e kept.Nothing = reply.Nothing
 told e (kept.Sent fate high low) = reply.Sent fate (high * 2 ^ 32 + low)
-told e (kept.Took did sig info) = reply.Took did (taker e) (record { n = number e.choice.instance; sig = sig; info = info })
+told e (kept.Took did sig info) = reply.Took did (taker e) (record { n = number e.choice.instance; sig = signal_of sig; info = info })
 told e (kept.Cloned id) = reply.Cloned id
 told e (kept.Waited id word) = reply.Waited id word (number e.choice.report)
 told e (kept.Message value) = reply.Message value
-told e (kept.Signal sig info) = reply.Signal sig info
+told e (kept.Signal sig info) = reply.Signal (signal_of sig) info
 
 -- of each entry
 abbrev pub all_told : List Entry → List KeptReply → List Reply

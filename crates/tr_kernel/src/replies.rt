@@ -1,5 +1,5 @@
 ghost use Rattle.std.specs.Prelude.{◌≡◌, ◌*◌, ◌+◌, ◌^◌};
-ghost use Rattle.tr_kernel.specs.Kept.{IsToldBy, taker, told};
+ghost use Rattle.tr_kernel.specs.Kept.{IsToldBy, signal_of, taker, told};
 ghost use Rattle.tr_model.specs.declared.events.Entry.{Entry};
 ghost use Rattle.tr_model.specs.Steps.{number};
 
@@ -10,19 +10,19 @@ use tr_sigset::Signal;
 /// Where a number is cut in two halves.
 const HALF: u64 = 1 << 32;
 
-/// What is kept of a reply beside its entry, in 20 bytes: the entry tells which thread took which number, and which report
-/// a wait consumed. A number stands in two halves.
+/// What is kept of a reply beside its entry, in 16 bytes: the entry tells which thread took which number, and which report
+/// a wait consumed. A number stands in two halves, and a signal as its number.
 #[derive(Clone, Copy)]
 pub(crate) enum KeptReply {
     Done,
     Exists,
     Nothing,
     Sent { fate: Fate, high: u32, low: u32 },
-    Took { did: Did, sig: Signal, info: Info },
+    Took { did: Did, sig: u8, info: Info },
     Cloned { tid: u32 },
     Waited { id: u32, word: u32 },
     Message { value: u32 },
-    Signal { sig: Signal, info: Info },
+    Signal { sig: u8, info: Info },
 }
 
 /// The thread that an entry is a take of.
@@ -33,6 +33,13 @@ fn taker(entry: &Entry) -> u32
         Event::Take { tid } => tid,
         _ => entry.choice.thread().unwrap_or(0),
     }
+}
+
+/// The signal of a number that is kept; KILL for the number of none, which is never kept.
+fn signal_of(number: u8) -> Signal
+    ensures { result ≡ signal_of number }
+{
+    Signal::new(number).unwrap_or(Signal::KILL)
 }
 
 /// What is to be kept of a reply.
@@ -51,13 +58,16 @@ pub(crate) fn kept(reply: &Reply) -> KeptReply
         },
         Reply::Took { inst, did, .. } => KeptReply::Took {
             did,
-            sig: inst.sig,
+            sig: inst.sig.number(),
             info: inst.info,
         },
         Reply::Cloned { tid } => KeptReply::Cloned { tid },
         Reply::Waited { id, word, .. } => KeptReply::Waited { id, word },
         Reply::Message { value } => KeptReply::Message { value },
-        Reply::Signal { sig, info } => KeptReply::Signal { sig, info },
+        Reply::Signal { sig, info } => KeptReply::Signal {
+            sig: sig.number(),
+            info,
+        },
     }
 }
 
@@ -78,7 +88,7 @@ impl KeptReply {
                 tid: taker(entry),
                 inst: Instance {
                     n: entry.choice.instance().unwrap_or(0),
-                    sig,
+                    sig: signal_of(sig),
                     info,
                 },
                 did,
@@ -90,7 +100,10 @@ impl KeptReply {
                 report: entry.choice.report().unwrap_or(0),
             },
             KeptReply::Message { value } => Reply::Message { value },
-            KeptReply::Signal { sig, info } => Reply::Signal { sig, info },
+            KeptReply::Signal { sig, info } => Reply::Signal {
+                sig: signal_of(sig),
+                info,
+            },
         }
     }
 }
