@@ -8,15 +8,15 @@ use Rattle.tr_kernel.specs.declared.note_list.KeptNote.{KeptNote}
 use Rattle.tr_kernel.specs.declared.notes.EntryFact.{EntryFact}
 use Rattle.tr_kernel.specs.declared.notes.EntryFact.TheVariants.{Nothing, Stop, Take, Exec}
 use Rattle.tr_kernel.specs.declared.notes.Note.{Note}
-use Rattle.tr_kernel.specs.Kept.{AreWithin, IsUpto, blank, deaths_of, is_blank, note_upto, spread}
+use Rattle.tr_kernel.specs.Kept.{AreWithin, IsUpto, blank, deaths_of, is_blank, note_upto, noted, spread}
 
 pub length_spread : (ks : List KeptNote) (d p n : ℕ) → length (spread ks d p n) ≡ n
 length_spread ks d p zero = refl
 length_spread [] d p (suc n) = ap suc (length_spread [] d (suc p) n)
-length_spread (k ∷ ks) d p (suc n) = go (k.place == p) (length_spread ks k.note.deaths (suc p) n) (length_spread (k ∷ ks) d (suc p) n)
+length_spread (k ∷ ks) d p (suc n) = go (k.place == p) (length_spread ks k.deaths (suc p) n) (length_spread (k ∷ ks) d (suc p) n)
   where
-    go : (b : Bool) → length (spread ks k.note.deaths (suc p) n) ≡ n → length (spread (k ∷ ks) d (suc p) n) ≡ n
-        → length (if b then k.note ∷ spread ks k.note.deaths (suc p) n else blank d ∷ spread (k ∷ ks) d (suc p) n) ≡ suc n
+    go : (b : Bool) → length (spread ks k.deaths (suc p) n) ≡ n → length (spread (k ∷ ks) d (suc p) n) ≡ n
+        → length (if b then noted k ∷ spread ks k.deaths (suc p) n else blank d ∷ spread (k ∷ ks) d (suc p) n) ≡ suc n
     go true h i = ap suc h
     go false h i = ap suc i
 
@@ -34,45 +34,45 @@ pub spread_blank : (ks : List KeptNote) (d p n : ℕ) → AreWithin p (p + n) ks
 spread_blank [] d p zero h = refl
 spread_blank [] d p (suc n) h = ap (λ ns. blank d ∷ ns) (spread_blank [] d (suc p) n (omega arith))
 spread_blank (k ∷ ks) d p zero h = absurd (omega (arith, h.0, h.1))
-spread_blank (k ∷ ks) d p (suc n) h = go (k.place == p) refl (spread_blank ks k.note.deaths (suc p) n) (spread_blank (k ∷ ks) d (suc p) n)
+spread_blank (k ∷ ks) d p (suc n) h = go (k.place == p) refl (spread_blank ks k.deaths (suc p) n) (spread_blank (k ∷ ks) d (suc p) n)
   where
     same : p + suc n ≡ suc p + n
     same = omega arith
 
     go : (b : Bool) → k.place == p ≡ b
-        → (AreWithin (suc p) (suc p + n) ks → spread ks k.note.deaths (suc p) (suc n) ≡ spread ks k.note.deaths (suc p) n ++ blank (deaths_of k.note.deaths ks) ∷ [])
+        → (AreWithin (suc p) (suc p + n) ks → spread ks k.deaths (suc p) (suc n) ≡ spread ks k.deaths (suc p) n ++ blank (deaths_of k.deaths ks) ∷ [])
         → (AreWithin (suc p) (suc p + n) (k ∷ ks) → spread (k ∷ ks) d (suc p) (suc n) ≡ spread (k ∷ ks) d (suc p) n ++ blank (deaths_of d (k ∷ ks)) ∷ [])
-        → (if b then k.note ∷ spread ks k.note.deaths (suc p) (suc n) else blank d ∷ spread (k ∷ ks) d (suc p) (suc n))
-        ≡ (if b then k.note ∷ spread ks k.note.deaths (suc p) n else blank d ∷ spread (k ∷ ks) d (suc p) n) ++ blank (deaths_of d (k ∷ ks)) ∷ []
-    go true e r q = ap (λ ns. k.note ∷ ns) (r (subst (λ q. AreWithin (suc p) q ks) same (subst (λ q. AreWithin (suc q) (p + suc n) ks) (eqb-true k.place p e) h.2)))
+        → (if b then noted k ∷ spread ks k.deaths (suc p) (suc n) else blank d ∷ spread (k ∷ ks) d (suc p) (suc n))
+        ≡ (if b then noted k ∷ spread ks k.deaths (suc p) n else blank d ∷ spread (k ∷ ks) d (suc p) n) ++ blank (deaths_of d (k ∷ ks)) ∷ []
+    go true e r q = ap (λ ns. noted k ∷ ns) (r (subst (λ q. AreWithin (suc p) q ks) same (subst (λ q. AreWithin (suc q) (p + suc n) ks) (eqb-true k.place p e) h.2)))
     go false e r q =
         ap (λ ns. blank d ∷ ns) (q (omega (arith, h.0, eqb-false k.place p e), omega (arith, h.1), subst (λ q. AreWithin (suc k.place) q ks) same h.2))
 
-pub spread_kept : (ks : List KeptNote) (x : KeptNote) (d p n : ℕ) → AreWithin p (p + n) ks → x.place ≡ p + n → spread (ks ++ x ∷ []) d p (suc n) ≡ spread ks d p n ++ x.note ∷ []
+pub spread_kept : (ks : List KeptNote) (x : KeptNote) (d p n : ℕ) → AreWithin p (p + n) ks → x.place ≡ p + n → spread (ks ++ x ∷ []) d p (suc n) ≡ spread ks d p n ++ noted x ∷ []
 spread_kept [] x d p zero h e = go (x.place == p) (eq-eqb x.place p (omega (arith, e)))
   where
-    go : (b : Bool) → b ≡ true → (if b then x.note ∷ [] else blank d ∷ []) ≡ x.note ∷ []
+    go : (b : Bool) → b ≡ true → (if b then noted x ∷ [] else blank d ∷ []) ≡ noted x ∷ []
     go true q = refl
     go false q = absurd cc
 spread_kept [] x d p (suc n) h e = go (x.place == p) (ne_eqb x.place p (λ q. omega (arith, e, q))) (spread_kept [] x d (suc p) n (omega arith) (omega (arith, e)))
   where
-    go : (b : Bool) → b ≡ false → spread (x ∷ []) d (suc p) (suc n) ≡ spread [] d (suc p) n ++ x.note ∷ []
-        → (if b then x.note ∷ spread [] x.note.deaths (suc p) (suc n) else blank d ∷ spread (x ∷ []) d (suc p) (suc n)) ≡ blank d ∷ spread [] d (suc p) n ++ x.note ∷ []
+    go : (b : Bool) → b ≡ false → spread (x ∷ []) d (suc p) (suc n) ≡ spread [] d (suc p) n ++ noted x ∷ []
+        → (if b then noted x ∷ spread [] x.deaths (suc p) (suc n) else blank d ∷ spread (x ∷ []) d (suc p) (suc n)) ≡ blank d ∷ spread [] d (suc p) n ++ noted x ∷ []
     go true q r = absurd cc
     go false q r = ap (λ ns. blank d ∷ ns) r
 spread_kept (k ∷ ks) x d p zero h e = absurd (omega (arith, h.0, h.1))
-spread_kept (k ∷ ks) x d p (suc n) h e = go (k.place == p) refl (spread_kept ks x k.note.deaths (suc p) n) (spread_kept (k ∷ ks) x d (suc p) n)
+spread_kept (k ∷ ks) x d p (suc n) h e = go (k.place == p) refl (spread_kept ks x k.deaths (suc p) n) (spread_kept (k ∷ ks) x d (suc p) n)
   where
     same : p + suc n ≡ suc p + n
     same = omega arith
 
     go : (b : Bool) → k.place == p ≡ b
-        → (AreWithin (suc p) (suc p + n) ks → x.place ≡ suc p + n → spread (ks ++ x ∷ []) k.note.deaths (suc p) (suc n) ≡ spread ks k.note.deaths (suc p) n ++ x.note ∷ [])
-        → (AreWithin (suc p) (suc p + n) (k ∷ ks) → x.place ≡ suc p + n → spread (k ∷ ks ++ x ∷ []) d (suc p) (suc n) ≡ spread (k ∷ ks) d (suc p) n ++ x.note ∷ [])
-        → (if b then k.note ∷ spread (ks ++ x ∷ []) k.note.deaths (suc p) (suc n) else blank d ∷ spread (k ∷ ks ++ x ∷ []) d (suc p) (suc n))
-        ≡ (if b then k.note ∷ spread ks k.note.deaths (suc p) n else blank d ∷ spread (k ∷ ks) d (suc p) n) ++ x.note ∷ []
+        → (AreWithin (suc p) (suc p + n) ks → x.place ≡ suc p + n → spread (ks ++ x ∷ []) k.deaths (suc p) (suc n) ≡ spread ks k.deaths (suc p) n ++ noted x ∷ [])
+        → (AreWithin (suc p) (suc p + n) (k ∷ ks) → x.place ≡ suc p + n → spread (k ∷ ks ++ x ∷ []) d (suc p) (suc n) ≡ spread (k ∷ ks) d (suc p) n ++ noted x ∷ [])
+        → (if b then noted k ∷ spread (ks ++ x ∷ []) k.deaths (suc p) (suc n) else blank d ∷ spread (k ∷ ks ++ x ∷ []) d (suc p) (suc n))
+        ≡ (if b then noted k ∷ spread ks k.deaths (suc p) n else blank d ∷ spread (k ∷ ks) d (suc p) n) ++ noted x ∷ []
     go true q r t =
-        ap (λ ns. k.note ∷ ns) (r (subst (λ m. AreWithin (suc p) m ks) same (subst (λ m. AreWithin (suc m) (p + suc n) ks) (eqb-true k.place p q) h.2)) (e ∙ same))
+        ap (λ ns. noted k ∷ ns) (r (subst (λ m. AreWithin (suc p) m ks) same (subst (λ m. AreWithin (suc m) (p + suc n) ks) (eqb-true k.place p q) h.2)) (e ∙ same))
     go false q r t =
         ap (λ ns. blank d ∷ ns) (t (omega (arith, h.0, eqb-false k.place p q), omega (arith, h.1), subst (λ m. AreWithin (suc k.place) m ks) same h.2) (e ∙ same))
 
@@ -91,18 +91,18 @@ blank_is d n h = go n.fact n.killed (n.deaths == d) refl h
 
 -- The note at a place
 
-upto_next : (d p : ℕ) (k : KeptNote) (ks : List KeptNote) → k.place < p → note_upto d p (k ∷ ks) ≡ note_upto k.note.deaths p ks
+upto_next : (d p : ℕ) (k : KeptNote) (ks : List KeptNote) → k.place < p → note_upto d p (k ∷ ks) ≡ note_upto k.deaths p ks
 upto_next d p k [] l = go (k.place == p) (ne_eqb k.place p (λ q. omega (arith, q, l)))
   where
-    go : (b : Bool) → b ≡ false → (if b then k.note else blank k.note.deaths) ≡ blank k.note.deaths
+    go : (b : Bool) → b ≡ false → (if b then noted k else blank k.deaths) ≡ blank k.deaths
     go true q = absurd cc
     go false q = refl
 upto_next d p k (x ∷ ks) l = refl
 
-upto_only : (d p : ℕ) (k : KeptNote) (ks : List KeptNote) (m : ℕ) → k.place ≡ p → m ≡ 1 → k.note ≡ note_upto d p (take m (k ∷ ks))
+upto_only : (d p : ℕ) (k : KeptNote) (ks : List KeptNote) (m : ℕ) → k.place ≡ p → m ≡ 1 → noted k ≡ note_upto d p (take m (k ∷ ks))
 upto_only d p k ks m e q = rw q (go (k.place == p) (eq-eqb k.place p e))
   where
-    go : (b : Bool) → b ≡ true → k.note ≡ (if b then k.note else blank k.note.deaths)
+    go : (b : Bool) → b ≡ true → noted k ≡ (if b then noted k else blank k.deaths)
     go true z = refl
     go false z = absurd cc
 
@@ -121,15 +121,15 @@ spread_at [] d p (suc n) zero m h l u = go m
     go zero = refl
     go (suc m) = refl
 spread_at [] d p (suc n) (suc i) m h l u = spread_at [] d (suc p) n i m (omega arith) (omega (arith, l)) (record { few = u.few; before = λ j e z. absurd (omega (arith, z, u.few)); behind = λ j e a b. absurd (omega (arith, b)) }) ∙ ap (λ q. Some (note_upto d q (take m []))) (omega arith)
-spread_at (k ∷ ks) d p (suc n) i m h l u = go (k.place == p) refl i m l u (λ j m. spread_at ks k.note.deaths (suc p) n j m) (λ j m. spread_at (k ∷ ks) d (suc p) n j m)
+spread_at (k ∷ ks) d p (suc n) i m h l u = go (k.place == p) refl i m l u (λ j m. spread_at ks k.deaths (suc p) n j m) (λ j m. spread_at (k ∷ ks) d (suc p) n j m)
   where
     same : p + suc n ≡ suc p + n
     same = omega arith
 
     go : (b : Bool) → k.place == p ≡ b → (i m : ℕ) → i < suc n → IsUpto (p + i) (k ∷ ks) m
-        → ((j m : ℕ) → AreWithin (suc p) (suc p + n) ks → j < n → IsUpto (suc p + j) ks m → slice_get (spread ks k.note.deaths (suc p) n) j ≡ Some (note_upto k.note.deaths (suc p + j) (take m ks)))
+        → ((j m : ℕ) → AreWithin (suc p) (suc p + n) ks → j < n → IsUpto (suc p + j) ks m → slice_get (spread ks k.deaths (suc p) n) j ≡ Some (note_upto k.deaths (suc p + j) (take m ks)))
         → ((j m : ℕ) → AreWithin (suc p) (suc p + n) (k ∷ ks) → j < n → IsUpto (suc p + j) (k ∷ ks) m → slice_get (spread (k ∷ ks) d (suc p) n) j ≡ Some (note_upto d (suc p + j) (take m (k ∷ ks))))
-        → slice_get (if b then k.note ∷ spread ks k.note.deaths (suc p) n else blank d ∷ spread (k ∷ ks) d (suc p) n) i ≡ Some (note_upto d (p + i) (take m (k ∷ ks)))
+        → slice_get (if b then noted k ∷ spread ks k.deaths (suc p) n else blank d ∷ spread (k ∷ ks) d (suc p) n) i ≡ Some (note_upto d (p + i) (take m (k ∷ ks)))
     go true e zero m l u r t = ap (λ x. Some x) (upto_only d (p + zero) k ks m (eqb-true k.place p e ∙ omega arith) (one ks m u h.2))
       where
         one : (ks : List KeptNote) (m : ℕ) → IsUpto (p + zero) (k ∷ ks) m → AreWithin (suc k.place) (p + suc n) ks → m ≡ 1
@@ -141,7 +141,7 @@ spread_at (k ∷ ks) d p (suc n) i m h l u = go (k.place == p) refl i m l u (λ 
     go true e (suc i) (suc m) l u r t =
         let q : p + suc i ≡ suc p + i = omega arith in
         r i m (subst (λ z. AreWithin (suc p) z ks) same (subst (λ z. AreWithin (suc z) (p + suc n) ks) (eqb-true k.place p e) h.2)) (omega (arith, l)) (subst (λ z. IsUpto z ks m) q (upto_tail k ks (p + suc i) m u))
-        ∙ (ap (λ z. Some (note_upto k.note.deaths z (take m ks))) (sym q) ∙ ap (λ x. Some x) (sym (upto_next d (p + suc i) k (take m ks) (omega (arith, eqb-true k.place p e)))))
+        ∙ (ap (λ z. Some (note_upto k.deaths z (take m ks))) (sym q) ∙ ap (λ x. Some x) (sym (upto_next d (p + suc i) k (take m ks) (omega (arith, eqb-true k.place p e)))))
     go false e zero zero l u r t = refl
     go false e zero (suc m) l u r t = absurd (omega (arith, u.before 0 k (omega arith), h.0, eqb-false k.place p e))
     go false e (suc i) m l u r t =
@@ -154,9 +154,9 @@ spread_past ks d p zero i l = refl
 spread_past [] d p (suc n) zero l = absurd (omega (arith, l))
 spread_past [] d p (suc n) (suc i) l = spread_past [] d (suc p) n i (omega (arith, l))
 spread_past (k ∷ ks) d p (suc n) zero l = absurd (omega (arith, l))
-spread_past (k ∷ ks) d p (suc n) (suc i) l = go (k.place == p) (spread_past ks k.note.deaths (suc p) n i (omega (arith, l))) (spread_past (k ∷ ks) d (suc p) n i (omega (arith, l)))
+spread_past (k ∷ ks) d p (suc n) (suc i) l = go (k.place == p) (spread_past ks k.deaths (suc p) n i (omega (arith, l))) (spread_past (k ∷ ks) d (suc p) n i (omega (arith, l)))
   where
-    go : (b : Bool) → slice_get (spread ks k.note.deaths (suc p) n) i ≡ None → slice_get (spread (k ∷ ks) d (suc p) n) i ≡ None → slice_get (if b then k.note ∷ spread ks k.note.deaths (suc p) n else blank d ∷ spread (k ∷ ks) d (suc p) n) (suc i) ≡ None
+    go : (b : Bool) → slice_get (spread ks k.deaths (suc p) n) i ≡ None → slice_get (spread (k ∷ ks) d (suc p) n) i ≡ None → slice_get (if b then noted k ∷ spread ks k.deaths (suc p) n else blank d ∷ spread (k ∷ ks) d (suc p) n) (suc i) ≡ None
     go true q r = q
     go false q r = r
 
@@ -168,15 +168,15 @@ behind k l ks =
     let there : length (k ∷ l ∷ ks) - 1 ≡ suc (length ks) = omega arith in
     ap (slice_get (l ∷ ks)) here ∙ ap (slice_get (k ∷ l ∷ ks)) (sym there)
 
-pub last_deaths : (d : ℕ) (ks : List KeptNote) (x : KeptNote) → slice_get ks (length ks - 1) ≡ Some x → x.note.deaths ≡ deaths_of d ks
+pub last_deaths : (d : ℕ) (ks : List KeptNote) (x : KeptNote) → slice_get ks (length ks - 1) ≡ Some x → x.deaths ≡ deaths_of d ks
 last_deaths d [] x h = absurd (none-some x h)
-last_deaths d (k ∷ []) x h = ap (λ (y : KeptNote). y.note.deaths) (sym (same_Some k x h))
-last_deaths d (k ∷ l ∷ ks) x h = last_deaths k.note.deaths (l ∷ ks) x (behind k l ks ∙ h)
+last_deaths d (k ∷ []) x h = ap (λ (y : KeptNote). y.deaths) (sym (same_Some k x h))
+last_deaths d (k ∷ l ∷ ks) x h = last_deaths k.deaths (l ∷ ks) x (behind k l ks ∙ h)
 
-pub last_upto : (d p : ℕ) (ks : List KeptNote) (x : KeptNote) → slice_get ks (length ks - 1) ≡ Some x → note_upto d p ks ≡ (if x.place == p then x.note else blank x.note.deaths)
+pub last_upto : (d p : ℕ) (ks : List KeptNote) (x : KeptNote) → slice_get ks (length ks - 1) ≡ Some x → note_upto d p ks ≡ (if x.place == p then noted x else blank x.deaths)
 last_upto d p [] x h = absurd (none-some x h)
-last_upto d p (k ∷ []) x h = ap (λ (y : KeptNote). if y.place == p then y.note else blank y.note.deaths) (same_Some k x h)
-last_upto d p (k ∷ l ∷ ks) x h = last_upto k.note.deaths p (l ∷ ks) x (behind k l ks ∙ h)
+last_upto d p (k ∷ []) x h = ap (λ (y : KeptNote). if y.place == p then noted y else blank y.deaths) (same_Some k x h)
+last_upto d p (k ∷ l ∷ ks) x h = last_upto k.deaths p (l ∷ ks) x (behind k l ks ∙ h)
 
 -- Those of entries up to a place
 

@@ -9,9 +9,11 @@ use Rattle.tr_model.specs.declared.fates.Fate.{Fate}
 use Rattle.tr_model.specs.declared.replies.Reply.{Reply}
 use Rattle.tr_model.specs.declared.replies.Reply.TheVariants as reply
 use Rattle.tr_model.specs.Steps.{number}
+use Rattle.tr_kernel.specs.declared.note_list.KeptFact.{KeptFact}
+use Rattle.tr_kernel.specs.declared.note_list.KeptFact.TheVariants as fact
 use Rattle.tr_kernel.specs.declared.note_list.KeptNote.{KeptNote}
 use Rattle.tr_kernel.specs.declared.notes.EntryFact.{EntryFact}
-use Rattle.tr_kernel.specs.declared.notes.EntryFact.TheVariants.{Nothing}
+use Rattle.tr_kernel.specs.declared.notes.EntryFact.TheVariants.{Exec, Nothing, Stop, Take}
 use Rattle.tr_kernel.specs.declared.notes.Note.{Note}
 use Rattle.tr_kernel.specs.declared.replies.KeptReply.{KeptReply}
 use Rattle.tr_kernel.specs.declared.replies.KeptReply.TheVariants as kept
@@ -78,12 +80,23 @@ pub record NotesOfEntries : Type 0 where
 abbrev pub blank : ℕ → Note
 blank deaths = record { fact = Nothing; killed = false; deaths = deaths }
 
+-- what an entry is to the laws, of which this is kept
+abbrev pub fact_of : KeptFact → EntryFact
+fact_of fact.Nothing = Nothing
+fact_of (fact.Stop stopped) = Stop stopped
+fact_of (fact.Take signal queue transfers number) = Take (record { number = number; signal = signal_of signal; queue = queue; transfers = transfers })
+fact_of (fact.Exec group) = Exec group
+
+-- the note that is kept
+abbrev pub noted : KeptNote → Note
+noted k = record { fact = fact_of k.fact; killed = k.killed; deaths = k.deaths }
+
 -- the notes of so many entries from a place on, before which so many deaths had begun: those that are kept, else blank ones
 abbrev pub spread : List KeptNote → ℕ → ℕ → ℕ → List Note
 spread ks deaths place zero = []
 spread [] deaths place (suc n) = blank deaths ∷ spread [] deaths (suc place) n
 spread (k ∷ ks) deaths place (suc n) =
-    if k.place == place then k.note ∷ spread ks k.note.deaths (suc place) n else blank deaths ∷ spread (k ∷ ks) deaths (suc place) n
+    if k.place == place then noted k ∷ spread ks k.deaths (suc place) n else blank deaths ∷ spread (k ∷ ks) deaths (suc place) n
 
 -- the places ascend, from the first to before the last of these
 abbrev pub AreWithin : ℕ → ℕ → List KeptNote → Type 0
@@ -101,8 +114,8 @@ is_blank deaths n = is_nothing n.fact && (not n.killed && n.deaths == deaths)
 -- the note of the entry at a place, by those that are kept of the entries up to it
 abbrev pub note_upto : ℕ → ℕ → List KeptNote → Note
 note_upto deaths place [] = blank deaths
-note_upto deaths place (k ∷ []) = if k.place == place then k.note else blank k.note.deaths
-note_upto deaths place (k ∷ l ∷ ks) = note_upto k.note.deaths place (l ∷ ks)
+note_upto deaths place (k ∷ []) = if k.place == place then noted k else blank k.deaths
+note_upto deaths place (k ∷ l ∷ ks) = note_upto k.deaths place (l ∷ ks)
 
 -- so many of these are of entries up to the place
 pub record IsUpto (place : ℕ) (ks : List KeptNote) (m : ℕ) : Type 0 where
@@ -113,4 +126,4 @@ pub record IsUpto (place : ℕ) (ks : List KeptNote) (m : ℕ) : Type 0 where
 -- how many deaths had begun after these
 abbrev pub deaths_of : ℕ → List KeptNote → ℕ
 deaths_of deaths [] = deaths
-deaths_of deaths (k ∷ ks) = deaths_of k.note.deaths ks
+deaths_of deaths (k ∷ ks) = deaths_of k.deaths ks

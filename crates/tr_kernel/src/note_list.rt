@@ -1,15 +1,33 @@
 ghost use Rattle.std.specs.Prelude.{◌≡◌, ◌++◌, ◌+◌, ◌-◌, ◌<◌, ◌≤◌, ◌∷◌, ◌^◌, [], None, OnErr, OnOk, false, length, nat_le, slice_get, true};
-ghost use Rattle.tr_kernel.specs.Kept.{AreWithin, IsUpto, blank, deaths_of, is_blank, note_upto};
+ghost use Rattle.tr_kernel.specs.Kept.{AreWithin, IsUpto, blank, deaths_of, fact_of, is_blank, note_upto, noted};
 
-use crate::notes::{EntryFact, Note};
+use crate::notes::{EntryFact, Note, Stopped, TakenFrom};
+use crate::replies::signal_of;
 use std::alloc::{AllocError, Global};
 use std::marker::Model;
+use tr_model::Target;
+
+/// What is kept of what an entry is to the laws, in 24 bytes: a signal as its number.
+#[derive(Clone, Copy)]
+enum KeptFact {
+    Nothing,
+    Stop(Stopped),
+    Take {
+        signal: u8,
+        queue: Target,
+        transfers: u32,
+        number: u64,
+    },
+    Exec(u32),
+}
 
 /// A note, and the place of its entry, from 0.
 #[derive(Clone, Copy)]
 pub(crate) struct KeptNote {
-    place: usize,
-    note: Note,
+    fact: KeptFact,
+    deaths: u64,
+    place: u32,
+    killed: bool,
 }
 
 /// A note for each entry. Those are kept that say more than the one before: most entries are nothing to the laws.
@@ -31,6 +49,69 @@ impl Model for NoteList {
     } };
 
     ghost invariant = { λ l. AreWithin 0 l.len l.kept.items };
+}
+
+fn kept_fact(fact: EntryFact) -> KeptFact
+    ensures { fact_of result ≡ fact }
+{
+    match fact {
+        EntryFact::Nothing => KeptFact::Nothing,
+        EntryFact::Stop(stopped) => KeptFact::Stop(stopped),
+        EntryFact::Take(taken) => KeptFact::Take {
+            signal: taken.signal.number(),
+            queue: taken.queue,
+            transfers: taken.transfers,
+            number: taken.number,
+        },
+        EntryFact::Exec(group) => KeptFact::Exec(group),
+    }
+}
+
+impl KeptFact {
+    fn fact(self) -> EntryFact
+        ensures { result ≡ fact_of self }
+    {
+        match self {
+            KeptFact::Nothing => EntryFact::Nothing,
+            KeptFact::Stop(stopped) => EntryFact::Stop(stopped),
+            KeptFact::Take {
+                signal,
+                queue,
+                transfers,
+                number,
+            } => EntryFact::Take(TakenFrom {
+                number,
+                signal: signal_of(signal),
+                queue,
+                transfers,
+            }),
+            KeptFact::Exec(group) => EntryFact::Exec(group),
+        }
+    }
+}
+
+impl KeptNote {
+    fn new(place: u32, note: &Note) -> KeptNote
+        ensures place { result.place ≡ place }
+        ensures note { noted result ≡ note.now }
+    {
+        KeptNote {
+            fact: kept_fact(note.fact),
+            deaths: note.deaths,
+            place,
+            killed: note.killed,
+        }
+    }
+
+    fn note(&self) -> Note
+        ensures { result ≡ noted self.now }
+    {
+        Note {
+            fact: self.fact.fact(),
+            killed: self.killed,
+            deaths: self.deaths,
+        }
+    }
 }
 
 fn blank(deaths: u64) -> Note
@@ -56,7 +137,7 @@ fn deaths_of(kept: &[KeptNote]) -> u64
     ensures { result ≡ deaths_of 0 kept.now }
 {
     match kept.last() {
-        Some(last) => last.note.deaths,
+        Some(last) => last.deaths,
         None => 0,
     }
 }
@@ -69,7 +150,7 @@ fn count_upto(kept: &[KeptNote], len: usize, place: usize) -> usize
     kept.partition_point(
         |kept: &KeptNote| -> bool
             ensures { result ≡ nat_le kept.now.place place }
-        { kept.place <= place },
+        { kept.place as usize <= place },
     )
 }
 
@@ -78,8 +159,8 @@ fn note_upto(kept: &[KeptNote], place: usize) -> Note
     ensures { result ≡ note_upto 0 place kept.now }
 {
     match kept.last() {
-        Some(last) if last.place == place => last.note,
-        Some(last) => blank(last.note.deaths),
+        Some(last) if last.place as usize == place => last.note(),
+        Some(last) => blank(last.deaths),
         None => blank(0),
     }
 }
@@ -124,10 +205,8 @@ impl NoteList {
         ensures { self.new.notes ≡ self.old.notes ++ note.now ∷ [] }
     {
         if !is_blank(note, deaths_of(&self.kept)) {
-            self.kept.push_reserved(KeptNote {
-                place: self.len,
-                note: *note,
-            });
+            self.kept
+                .push_reserved(KeptNote::new(self.len as u32, note));
         }
         self.len += 1;
     }

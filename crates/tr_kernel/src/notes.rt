@@ -28,7 +28,7 @@ pub(crate) struct TakenFrom {
     pub(crate) number: u64,
     pub(crate) signal: Signal,
     pub(crate) queue: Target,
-    pub(crate) transfers: u64,
+    pub(crate) transfers: u32,
 }
 
 /// What an entry is to the laws.
@@ -156,11 +156,12 @@ fn times(transfers: &[IdTransfer], id: u32) -> u64
     0
 }
 
-fn transfers_in(transfers: &[IdTransfer], queue: Target) -> u64
+fn transfers_in(transfers: &[IdTransfer], queue: Target) -> u32
+    requires few { (n : ℕ) → times n transfers.now < 2 ^ 32 }
     ensures { result ≡ transfers_in transfers.now queue }
 {
     match queue {
-        Target::Thread(id) => times(transfers, id),
+        Target::Thread(id) => times(transfers, id) as u32,
         Target::Group(_) => 0,
     }
 }
@@ -195,6 +196,7 @@ fn count_first_transfer(transfers: &mut Vec<IdTransfer>, ids: &[u32])
 // What the step shows
 
 fn took_fact(fact: EntryFact, queue: Target, transfers: &[IdTransfer], reply: &Reply) -> EntryFact
+    requires few { (n : ℕ) → times n transfers.now < 2 ^ 32 }
     ensures { result ≡ fact_after fact (Some queue) transfers.now reply.now }
 {
     match reply {
@@ -214,6 +216,7 @@ fn fact_after(
     queue: Option<Target>,
     transfers: &[IdTransfer],
 ) -> EntryFact
+    requires few { (n : ℕ) → times n transfers.now < 2 ^ 32 }
     ensures { result ≡ fact_after fact queue transfers.now reply.now }
 {
     match queue {

@@ -36,7 +36,7 @@ fn taker(entry: &Entry) -> u32
 }
 
 /// The signal of a number that is kept; KILL for the number of none, which is never kept.
-fn signal_of(number: u8) -> Signal
+pub(crate) fn signal_of(number: u8) -> Signal
     ensures { result ≡ signal_of number }
 {
     Signal::new(number).unwrap_or(Signal::KILL)
