@@ -152,7 +152,22 @@ impl Fates {
     }
 }
 
+/// Appends so many open fates. Most entries accept one signal or none.
+#[inline(always)]
 fn append_pending(list: &mut Vec<Fate>, more: usize)
+    requires { vec_len list.old + more ≤ vec_capacity list.old }
+    ensures items { list.new.items ≡ list.old.items ++ replicate more Pending }
+    ensures capacity { vec_capacity list.new ≡ vec_capacity list.old }
+{
+    match more {
+        0 => {}
+        1 => list.push_reserved(Fate::Pending),
+        _ => append_each_pending(list, more),
+    }
+}
+
+#[inline(never)]
+fn append_each_pending(list: &mut Vec<Fate>, more: usize)
     requires { vec_len list.old + more ≤ vec_capacity list.old }
     ensures items { list.new.items ≡ list.old.items ++ replicate more Pending }
     ensures capacity { vec_capacity list.new ≡ vec_capacity list.old }

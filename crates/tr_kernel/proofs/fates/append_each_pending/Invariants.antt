@@ -1,6 +1,6 @@
 use Rattle.std.proofs.Common.{◌≡◌, ◌++◌, ◌+◌, ◌≤◌, ◌-◌, replicate, vec_len, vec_capacity}
 use Rattle.tr_model.specs.declared.fates.Fate.TheVariants.{Pending}
-use Rattle.tr_kernel.proofs.fates.append_pending.Given as goal
+use Rattle.tr_kernel.proofs.fates.append_each_pending.Given as goal
 
 abbrev pub invariant-loop : goal.invariant-loop
 invariant-loop l =
