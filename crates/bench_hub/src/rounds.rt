@@ -14,7 +14,7 @@ use tr_kernel::Kernel;
 use tr_model::Event;
 
 /// How many calls one round makes, in all threads together.
-pub const CALLS: u64 = 1 << 18;
+pub const CALLS: u64 = 400_000;
 
 /// How many rounds are timed; the quickest counts.
 const ROUNDS: usize = 15;

@@ -119,6 +119,7 @@ impl Fates {
     }
 
     /// Appends this many accepted numbers, whose fate is open.
+    #[inline(always)]
     pub(crate) fn accept(&mut self, more: usize)
         requires { more ≤ self.old.room }
         ensures fates { self.new.fates ≡ self.old.fates ++ replicate more Pending }

@@ -25,7 +25,7 @@ use tr_model::{Ending, Target, Waiting};
 use tr_pending::Instance;
 use tr_sigset::{SigSet, Signal};
 
-/// How many empty lines may stay, and as many again as instances wait.
+/// How many pairs of lines may stay beside a pair for each instance that waits.
 const MOST_EMPTY: usize = 64;
 
 /// For how many more instances at least there are places where some are made.
