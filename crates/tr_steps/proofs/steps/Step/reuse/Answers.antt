@@ -1,5 +1,4 @@
 use Rattle.std.proofs.Common.{◌≡◌, ◌∙◌, ◌≤◌, ap, arith, length, rules, vec_capacity}
-use Rattle.tr_table.specs.Held.{held_count}
 use Rattle.tr_table.proofs.Helds.{few_of_all}
 use Rattle.tr_steps.proofs.steps.Step.reuse.Goals as goal
 
