@@ -135,6 +135,7 @@ pub(crate) fn enter_line(lines: &mut IndexMap<LineKey, Line, WordHashing>, waiti
     ensures spare { spare lines.old ≤ spare lines.new + 1 }
     ensures places { index_map_len lines.old + spare lines.old
         ≤ index_map_len lines.new + spare lines.new }
+    ensures len { index_map_len lines.new ≤ index_map_len lines.old + 1 }
 {
     let key = key_of(waiting);
     match find(lines, &key) {
@@ -254,7 +255,7 @@ pub(crate) fn leave_line(
         ≡ is_some (line_at lines.new waiting.now.target waiting.now.instance.sig) }
     ensures spare { spare lines.old ≤ spare lines.new }
     ensures places { index_map_len lines.old + spare lines.old
-        ≤ index_map_len lines.new + spare lines.new + 1 }
+        ≤ index_map_len lines.new + spare lines.new }
 {
     let key = key_of(waiting);
     let Some(line) = find_line(lines, &key) else {
@@ -282,7 +283,7 @@ pub(crate) fn leave_queue(
         → queue_at queues.new q ≡ queue_at queues.old q }
     ensures spare { spare queues.old ≤ spare queues.new }
     ensures places { index_map_len queues.old + spare queues.old
-        ≤ index_map_len queues.new + spare queues.new + 1 }
+        ≤ index_map_len queues.new + spare queues.new }
 {
     if let Some(queue) = find(queues, &waiting.target) {
         let left = narrower(&queue, waiting.instance.sig, stays);
@@ -327,6 +328,7 @@ pub(crate) fn enter_all(
         ≤ index_map_len lines.new + spare lines.new }
     ensures queue_places { index_map_len queues.old + spare queues.old
         ≤ index_map_len queues.new + spare queues.new }
+    ensures few { index_map_len lines.new ≤ length (standing slots.now) }
 {
     lines.clear();
     queues.clear();

@@ -1,4 +1,5 @@
-ghost use Rattle.std.specs.Prelude.{◌≡◌, ◌==◌, ◌+◌, ◌<◌, ◌≤◌, ◌++◌, ◌∷◌, [], OnErr, OnOk, false, filter, get_or, length, map, not, set, vec_capacity, vec_len};
+ghost use Rattle.std.specs.Prelude.{◌≡◌, ◌==◌, ◌+◌, ◌*◌, ◌<◌, ◌≤◌, ◌++◌, ◌∷◌, [], OnErr, OnOk, false, filter, get_or, length, map, not, set, vec_capacity, vec_len};
+ghost use Rattle.indexmap.specs.IndexMap.{index_map_len};
 ghost use Rattle.std.specs.List.{list_any};
 ghost use Rattle.tr_model.specs.declared.fates.Fate.TheVariants.{Flushed};
 ghost use Rattle.tr_model.specs.declared.rows.Target.TheVariants as target;
@@ -263,6 +264,7 @@ impl Pending {
     fn drop_empty(&mut self)
         requires { IsPending self.old }
         ensures kept { IsPending self.new }
+        ensures few { index_map_len self.new.lines ≤ 2 * (self.new.count + 64) + 1 }
         ensures slots { self.new.slots ≡ self.old.slots }
         ensures count { self.new.count ≡ self.old.count }
         ensures room { self.new.room ≡ self.old.room }

@@ -71,6 +71,7 @@ loop-slot-preserved c =
             omega (arith, n, b, h.2, w.enter_queue.ensures.spare),
             omega (arith, a, d, h.3, w.enter_line.ensures.places),
             omega (arith, b, e, h.4, w.enter_queue.ensures.places),
+            omega (arith, d, n, h.5, w.enter_line.ensures.len),
           )
       | else-not-slot w ↦
           let gone : (get_or ss i s).gone ≡ true = search rules in
@@ -86,5 +87,6 @@ loop-slot-preserved c =
             omega (arith, n, b, h.2),
             omega (arith, a, d, h.3),
             omega (arith, b, e, h.4),
+            omega (arith, d, n, h.5),
           )
     ]

@@ -11,3 +11,4 @@ invariant-loop-slot l =
     × (index_map_len l.fn.queues + spare l.fn.queues ≤ spare l.queues + length (standing (take l.slot-index l.slots)))
     × (index_map_len l.fn.lines + spare l.fn.lines ≤ index_map_len l.lines + spare l.lines)
     × (index_map_len l.fn.queues + spare l.fn.queues ≤ index_map_len l.queues + spare l.queues)
+    × (index_map_len l.lines ≤ length (standing (take l.slot-index l.slots)))
