@@ -37,38 +37,23 @@ fn same_fate(a: Fate, b: Fate) -> bool
 }
 
 /// Counts a number that was pending under its fate.
-fn moved(totals: &Totals, fate: Fate) -> Totals
-    requires pending { 0 < totals.now.pending }
-    requires merged { totals.now.merged + 1 < 18446744073709551616 }
-    requires delivered { totals.now.delivered + 1 < 18446744073709551616 }
-    requires suppressed { totals.now.suppressed + 1 < 18446744073709551616 }
-    requires flushed { totals.now.flushed + 1 < 18446744073709551616 }
-    ensures { MovesOne fate totals.now result }
+#[inline(always)]
+fn move_one(totals: &mut Totals, fate: Fate)
+    requires pending { 0 < totals.old.pending }
+    requires merged { totals.old.merged + 1 < 18446744073709551616 }
+    requires delivered { totals.old.delivered + 1 < 18446744073709551616 }
+    requires suppressed { totals.old.suppressed + 1 < 18446744073709551616 }
+    requires flushed { totals.old.flushed + 1 < 18446744073709551616 }
+    ensures { MovesOne fate totals.old totals.new }
 {
-    let pending = totals.pending - 1;
     match fate {
-        Fate::Pending => *totals,
-        Fate::Merged => Totals {
-            pending,
-            merged: totals.merged + 1,
-            ..*totals
-        },
-        Fate::Delivered => Totals {
-            pending,
-            delivered: totals.delivered + 1,
-            ..*totals
-        },
-        Fate::Suppressed => Totals {
-            pending,
-            suppressed: totals.suppressed + 1,
-            ..*totals
-        },
-        Fate::Flushed => Totals {
-            pending,
-            flushed: totals.flushed + 1,
-            ..*totals
-        },
+        Fate::Pending => return,
+        Fate::Merged => totals.merged += 1,
+        Fate::Delivered => totals.delivered += 1,
+        Fate::Suppressed => totals.suppressed += 1,
+        Fate::Flushed => totals.flushed += 1,
     }
+    totals.pending -= 1;
 }
 
 impl Fates {
@@ -131,6 +116,7 @@ impl Fates {
     }
 
     /// Writes down what ended.
+    #[inline(always)]
     pub(crate) fn write_all(&mut self, ended: &[Ending])
         ensures { self.new.fates ≡ endings_noted ended.now self.old.fates }
     {
@@ -139,6 +125,7 @@ impl Fates {
         }
     }
 
+    #[inline(always)]
     fn write(&mut self, ending: &Ending)
         ensures { self.new.fates ≡ ending_noted 1 ending.now self.old.fates }
     {
@@ -148,7 +135,7 @@ impl Fates {
             && same_fate(Fate::Pending, self.list[place - 1])
         {
             self.list[place - 1] = ending.fate;
-            self.totals = moved(&self.totals, ending.fate);
+            move_one(&mut self.totals, ending.fate);
         }
     }
 }

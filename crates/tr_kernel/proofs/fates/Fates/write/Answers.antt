@@ -7,37 +7,37 @@ use Rattle.tr_kernel.proofs.Tallied.{one_more, some_pending, tally_set}
 use Rattle.tr_kernel.proofs.fates.Fates.write.Goals as goal
 use Rattle.tr_kernel.proofs.fates.Fates.write.Goals.{else-place-ge1-via-then-place-ge1+then-place-len+else-same_fate, else-place-ge1-via-then-place-ge1+else-place-len, else-place-ge1-via-else-place-ge1}
 
-pub moved-self-inside-requires-clause-pending : goal.moved-self-inside-requires-clause-pending
-moved-self-inside-requires-clause-pending c =
+pub move_one-requires-clause-pending : goal.move_one-requires-clause-pending
+move_one-requires-clause-pending c =
     omega (
       arith,
       ap (λ t. t.pending) c.self.invariant,
       some_pending c.self.inside.list.items (c.args.ending.now.number - 1) c.index.result.now (omega (arith, c.if-place-ge1.true, c.if-place-len.true)) (ap (same_fate Pending) (sym c.index.ensures) ∙ sym c.same_fate.ensures ∙ c.if-same_fate.true),
     )
 
-pub moved-self-inside-requires-clause-merged : goal.moved-self-inside-requires-clause-merged
-moved-self-inside-requires-clause-merged c =
+pub move_one-requires-clause-merged : goal.move_one-requires-clause-merged
+move_one-requires-clause-merged c =
     omega (
       arith,
       one_more c.self.inside.totals Merged c.self.inside.list.items (c.args.ending.now.number - 1) c.index.result.now c.self.invariant refl (omega (arith, c.if-place-ge1.true, c.if-place-len.true)) (ap (same_fate Pending) (sym c.index.ensures) ∙ sym c.same_fate.ensures ∙ c.if-same_fate.true),
     )
 
-pub moved-self-inside-requires-clause-delivered : goal.moved-self-inside-requires-clause-delivered
-moved-self-inside-requires-clause-delivered c =
+pub move_one-requires-clause-delivered : goal.move_one-requires-clause-delivered
+move_one-requires-clause-delivered c =
     omega (
       arith,
       one_more c.self.inside.totals Delivered c.self.inside.list.items (c.args.ending.now.number - 1) c.index.result.now c.self.invariant refl (omega (arith, c.if-place-ge1.true, c.if-place-len.true)) (ap (same_fate Pending) (sym c.index.ensures) ∙ sym c.same_fate.ensures ∙ c.if-same_fate.true),
     )
 
-pub moved-self-inside-requires-clause-suppressed : goal.moved-self-inside-requires-clause-suppressed
-moved-self-inside-requires-clause-suppressed c =
+pub move_one-requires-clause-suppressed : goal.move_one-requires-clause-suppressed
+move_one-requires-clause-suppressed c =
     omega (
       arith,
       one_more c.self.inside.totals Suppressed c.self.inside.list.items (c.args.ending.now.number - 1) c.index.result.now c.self.invariant refl (omega (arith, c.if-place-ge1.true, c.if-place-len.true)) (ap (same_fate Pending) (sym c.index.ensures) ∙ sym c.same_fate.ensures ∙ c.if-same_fate.true),
     )
 
-pub moved-self-inside-requires-clause-flushed : goal.moved-self-inside-requires-clause-flushed
-moved-self-inside-requires-clause-flushed c =
+pub move_one-requires-clause-flushed : goal.move_one-requires-clause-flushed
+move_one-requires-clause-flushed c =
     omega (
       arith,
       one_more c.self.inside.totals Flushed c.self.inside.list.items (c.args.ending.now.number - 1) c.index.result.now c.self.invariant refl (omega (arith, c.if-place-ge1.true, c.if-place-len.true)) (ap (same_fate Pending) (sym c.index.ensures) ∙ sym c.same_fate.ensures ∙ c.if-same_fate.true),
@@ -47,7 +47,7 @@ pub invariant_of-self : goal.invariant_of-self
 invariant_of-self c =
     let fs = c.self.inside.list.items in
     let i = c.args.ending.now.number - 1 in
-    tally_set c.self.inside.totals c.moved-self-inside.result c.args.ending.now.fate fs i c.index.result.now c.self.invariant c.moved-self-inside.ensures (omega (arith, c.if-place-ge1.true, c.if-place-len.true)) (ap (same_fate Pending) (sym c.index.ensures) ∙ sym c.same_fate.ensures ∙ c.if-same_fate.true)
+    tally_set c.self.inside.totals c.move_one.new.totals c.args.ending.now.fate fs i c.index.result.now c.self.invariant c.move_one.ensures (omega (arith, c.if-place-ge1.true, c.if-place-len.true)) (ap (same_fate Pending) (sym c.index.ensures) ∙ sym c.same_fate.ensures ∙ c.if-same_fate.true)
     ∙ ap (tally (set fs i c.args.ending.now.fate)) (sym (length-set fs i c.args.ending.now.fate))
 
 pub returns-then-same_fate : goal.returns-then-same_fate
