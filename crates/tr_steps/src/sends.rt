@@ -3,7 +3,7 @@
 ghost use Rattle.std.specs.Prelude.{◌≡◌, ◌≤◌};
 ghost use Rattle.tr_pending.specs.Waiting.{merges};
 ghost use Rattle.tr_model.specs.Sends.{before_send, continue_by_signal, is_ignored, is_open, is_reachable, put, put_unless_ignored, send, send_kill, send_other};
-ghost use Rattle.tr_model.specs.Tables.{queue};
+ghost use Rattle.tr_model.specs.Tables.{owner, queue};
 ghost use Rattle.tr_steps.specs.UnderWay.{Moves};
 
 use crate::steps::Step;
@@ -30,6 +30,7 @@ impl Step {
 
     // Second: in a dying group, or at what isn't live, it is flushed.
 
+    #[inline(always)]
     pub(crate) fn is_reachable(&self, target: Target) -> bool
         ensures { result ≡ is_reachable self.now.work.table target }
     {
@@ -81,6 +82,7 @@ impl Step {
         }
     }
 
+    #[inline(always)]
     pub(crate) fn is_ignored(&self, signal: Signal, target: Target) -> bool
         ensures { result ≡ is_ignored self.now.work.table signal target }
     {
@@ -90,6 +92,7 @@ impl Step {
 
     // Fifth: a standard signal that waits in the same queue already merges. Sixth: else it is pending.
 
+    #[inline(always)]
     pub(crate) fn merges(&self, signal: Signal, target: Target) -> bool
         ensures { result ≡ merges signal (queue self.now.work.table target) }
     {
@@ -121,17 +124,30 @@ impl Step {
         }
     }
 
+    /// Sends a stop signal, or SIGCONT, to what can be reached.
+    #[inline(never)]
+    fn send_job_control(&mut self, signal: Signal, info: &Info, target: Target)
+        requires { 2 ≤ self.old.room }
+        ensures { Moves
+            (λ w. put_unless_ignored signal info.now target
+            (before_send signal (owner w.table target) w)) 2 self.old self.new }
+    {
+        let tgid = self.table().owner(target);
+        self.before_send(signal, tgid);
+        self.put_unless_ignored(signal, info, target);
+    }
+
     #[inline(always)]
     fn send_other(&mut self, signal: Signal, info: &Info, target: Target)
         requires { 2 ≤ self.old.room }
         ensures { Moves (send_other signal info.now target) 2 self.old self.new }
     {
-        if self.is_reachable(target) {
-            let tgid = self.table().owner(target);
-            self.before_send(signal, tgid);
-            self.put_unless_ignored(signal, info, target);
-        } else {
+        if !self.is_reachable(target) {
             self.accept_as(Fate::Flushed);
+        } else if signal.is_stop() || signal == Signal::CONT {
+            self.send_job_control(signal, info, target);
+        } else {
+            self.put_unless_ignored(signal, info, target);
         }
     }
 
@@ -143,8 +159,12 @@ impl Step {
         if signal == Signal::KILL {
             let tgid = self.table().owner(target);
             self.send_kill(tgid);
-        } else {
-            self.send_other(signal, info, target);
+            return;
+        }
+        // Here the kind of target is decided once; each rule would ask for it again.
+        match target {
+            Target::Group(tgid) => self.send_other(signal, info, Target::Group(tgid)),
+            Target::Thread(id) => self.send_other(signal, info, Target::Thread(id)),
         }
     }
 }

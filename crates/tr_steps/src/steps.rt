@@ -200,11 +200,12 @@ impl Step {
         ensures room { result ≡ true → self.new.room ≡ moves }
         ensures unchanged { result ≡ false → self.new ≡ self.old }
     {
-        let lists = self.raises.capacity().min(self.dying.capacity());
-        let lists = lists
-            .min(self.killed.capacity())
-            .min(self.renamed.capacity());
-        if lists < moves || self.ended.capacity() < self.most_ended(moves) {
+        if self.raises.capacity() < moves
+            || self.dying.capacity() < moves
+            || self.killed.capacity() < moves
+            || self.renamed.capacity() < moves
+            || self.ended.capacity() < self.most_ended(moves)
+        {
             return false;
         }
         if !self.table.has_room(moves) {
