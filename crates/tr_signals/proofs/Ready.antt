@@ -1,5 +1,5 @@
 -- A thread's words say whether it can take something, and the first word that does is that of the first thread that can.
-use Rattle.std.proofs.Common.{◌≡◌, ◌==◌, ◌&&◌, ◌||◌, ◌-◌, ◌^◌, ◌<◌, ◌≤◌, ◌∙◌, ℕ, zero, suc, List, [], ◌∷◌, Bool, true, false, not, nat_le, if◌then◌else◌, cond, Option, Some, None, is_some, filter, length, arith, refl, sym, ap, subst, true≢false, inl, inr}
+use Rattle.std.proofs.Common.{◌≡◌, ◌==◌, ◌&&◌, ◌||◌, ◌-◌, ◌^◌, ◌<◌, ◌≤◌, ◌∙◌, ℕ, suc, List, [], ◌∷◌, Bool, true, false, not, nat_le, if◌then◌else◌, cond, Option, Some, None, is_some, length, arith, refl, sym, ap, subst, true≢false, inl, inr}
 use Rattle.std.proofs.lemmas.Bool.{and_parts, eq-eqb, eqb-true, ltb-false, ltb-true, not-true, or_left, or_right}
 use Rattle.std.proofs.lemmas.List.Folds.{find_at}
 use Rattle.std.proofs.lemmas.Nat.{and_le_r}

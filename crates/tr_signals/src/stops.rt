@@ -63,8 +63,7 @@ fn halt_traced(step: &mut Step, thread: &Thread)
 fn halt_untraced(step: &mut Step, thread: &Thread)
     ensures { Moves (halt_untraced thread.now) 0 step.old step.new }
 {
-    step.change_thread(thread.id, &ThreadChange::Join);
-    step.change_thread(thread.id, &ThreadChange::Stop);
+    step.change_thread(thread.id, &ThreadChange::Halt);
 }
 
 fn halt_thread(step: &mut Step, thread: &Thread)

@@ -1,15 +1,17 @@
 -- The roster that a list of ids and a list of rosters beside it have for a group.
-use Rattle.std.proofs.Common.{◌≡◌, ◌==◌, ◌+◌, ◌-◌, ◌<◌, ◌≤◌, ◌∙◌, ◌⊎◌, inl, inr, ℕ, zero, suc, List, [], ◌∷◌, ◌++◌, Bool, true, false, Option, Some, None, cond, if◌then◌else◌, get_or, length, nat_eq, position, remove, set, arith, ap, refl, sym}
+use Rattle.std.proofs.Common.{◌≡◌, ◌==◌, ◌+◌, ◌-◌, ◌<◌, ◌≤◌, ◌∙◌, ◌⊎◌, inl, inr, ℕ, zero, suc, List, [], ◌∷◌, ◌++◌, Bool, true, false, Option, Some, None, cond, if◌then◌else◌, get_or, length, nat_eq, position, remove, set, arith, ap, refl, subst, sym}
 use Rattle.std.specs.Prelude.{unwrap_or}
 use Rattle.std.specs.List.{list_any, zip}
 use Rattle.std.specs.Map.{lookup}
 use Rattle.std.proofs.lemmas.Bool.{cases_eq, eq-eqb, eqb-false, eqb-true, ne_eqb}
+use Rattle.std.proofs.lemmas.List.{set-get_or}
 use Rattle.tr_model.specs.Journals.{occurs}
 use Rattle.tr_tracee.specs.declared.thread.Thread.{Thread}
 use Rattle.tr_tracee.specs.Lives.{is_dead, is_live}
 use Rattle.tr_tracee.specs.Threads.{is_traced}
 use Rattle.tr_table.specs.Held.{bool_to_nat}
-use Rattle.tr_table.specs.Rosters.{Alike, RosterView, no_one, rewritten, roster_in, unless_empty}
+use Rattle.tr_table.specs.Rosters.{CountAlike, HasRow, HaveSameWords, RosterView, no_one, place_in, rewritten, roster_in, unless_empty, with_counts, with_words}
+use Rattle.tr_table.specs.Rows.{blocked_word, runnable_word}
 use Rattle.tr_table.specs.Pages.{counted_from_one}
 use Rattle.tr_table.proofs.Numbered.{absent, bump, number, number_is}
 
@@ -184,18 +186,37 @@ some_left r e = ap (λ (b : Bool). if b then no_one else r) (sym e)
 same_count : (n : ℕ) (a b : Bool) → a ≡ b → n ≡ n + bool_to_nat b - bool_to_nat a
 same_count n a b e = let m = ap bool_to_nat e in omega (arith, m)
 
-pub unwritten : (t u : Thread) → Alike t u → (g h : ℕ) (rs : List (ℕ × RosterView)) → roster_in rs h ≡ (if g == h then rewritten t u (roster_in rs h) else roster_in rs h)
-unwritten t u a g h rs = go (g == h)
+same_place : (xs : List ℕ) (i x y : ℕ) → get_or xs i x ≡ x → x ≡ y → xs ≡ set xs i y
+same_place xs i x y e f = sym (ap (λ (z : ℕ). set xs i z) (sym f ∙ sym e) ∙ set-get_or xs i x)
+
+pub words_stay : (t u : Thread) → HaveSameWords t u → (r : RosterView) → HasRow t r → with_words t.id u r ≡ r
+words_stay t u a r row = λ i. record {
+  ids = r.ids;
+  blocked = sym (same_place r.blocked (place_in t.id r.ids) (blocked_word t) (blocked_word u) row.blocked a.blocked) i;
+  runnable = sym (same_place r.runnable (place_in t.id r.ids) (runnable_word t) (runnable_word u) row.runnable a.runnable) i;
+  live = r.live;
+  dead = r.dead;
+  traced = r.traced;
+  marked = r.marked;
+}
+
+pub counts_stay : (t u : Thread) → CountAlike t u → (r : RosterView) → with_counts t u r ≡ r
+counts_stay t u a r = λ i. record {
+  ids = r.ids;
+  blocked = r.blocked;
+  runnable = r.runnable;
+  live = sym (same_count r.live (is_live t.life) (is_live u.life) a.live) i;
+  dead = sym (same_count r.dead (is_dead t.life) (is_dead u.life) a.dead) i;
+  traced = sym (same_count r.traced (is_traced t) (is_traced u) a.traced) i;
+  marked = sym (same_count r.marked t.stop_mark u.stop_mark a.marked) i;
+}
+
+pub unwritten : (t u : Thread) → HaveSameWords t u → CountAlike t u → (g h : ℕ) (rs : List (ℕ × RosterView)) → HasRow t (roster_in rs g) → roster_in rs h ≡ (if g == h then rewritten t u (roster_in rs h) else roster_in rs h)
+unwritten t u words counts g h rs row = go (g == h) refl
   where
     r : RosterView
     r = roster_in rs h
 
-    go : (b : Bool) → r ≡ (if b then rewritten t u r else r)
-    go true = λ i. record {
-      ids = r.ids;
-      live = same_count r.live (is_live t.life) (is_live u.life) a.live i;
-      dead = same_count r.dead (is_dead t.life) (is_dead u.life) a.dead i;
-      traced = same_count r.traced (is_traced t) (is_traced u) a.traced i;
-      marked = same_count r.marked t.stop_mark u.stop_mark a.marked i;
-    }
-    go false = refl
+    go : (b : Bool) → (g == h) ≡ b → r ≡ (if b then rewritten t u r else r)
+    go true e = sym (counts_stay t u counts (with_words t.id u r) ∙ words_stay t u words r (subst (λ (n : ℕ). HasRow t (roster_in rs n)) (eqb-true g h e) row))
+    go false e = refl

@@ -1,8 +1,10 @@
 -- What a change of the list of all threads makes of the roster of a group.
-use Rattle.std.proofs.Common.{◌≡◌, ◌==◌, ◌&&◌, ◌+◌, ◌<◌, ◌≤◌, ◌∙◌, ℕ, zero, suc, List, [], ◌∷◌, ◌++◌, Bool, true, false, not, cond, if◌then◌else◌, filter, length, set, get_or, remove, take, arith, refl, ap, sym, eq-eqb, ◌⊎◌, inl, inr}
+use Rattle.std.proofs.Common.{◌≡◌, ◌==◌, ◌&&◌, ◌+◌, ◌<◌, ◌≤◌, ◌∙◌, ℕ, zero, suc, List, [], ◌∷◌, ◌++◌, Bool, true, false, cond, if◌then◌else◌, filter, length, map, set, get_or, remove, take, arith, refl, ap, sym, eq-eqb, ◌⊎◌, inl, inr}
 use Rattle.std.specs.List.{list_any}
 use Rattle.std.proofs.lemmas.Bool.{cases_eq, ne_eqb}
-use Rattle.std.proofs.lemmas.List.{take_more}
+use Rattle.std.proofs.lemmas.List.{get_or-map, map-append, map-set, take_more}
+use Rattle.std.proofs.Math.Seq.{map-set_same}
+use Rattle.indexmap.proofs.SetLemmas.{map-remove}
 use Rattle.tr_tracee.specs.declared.thread.Thread.{Thread}
 use Rattle.tr_tracee.specs.Lives.{is_dead, is_live}
 use Rattle.tr_tracee.specs.Threads.{in_group, is_traced}
@@ -12,9 +14,11 @@ use Rattle.tr_model.proofs.Measures.{total, total-append}
 use Rattle.tr_model.proofs.OneFate.{one}
 use Rattle.tr_table.specs.Held.{bool_to_nat}
 use Rattle.tr_table.specs.Private.{IsThreads}
-use Rattle.tr_table.specs.Rosters.{Counts, IsSmall, RosterView, no_one, rewritten, roster_in, roster_of, unless_empty, with_last, without}
+use Rattle.tr_table.specs.Rosters.{Counts, HasRow, IsSmall, RosterView, no_one, place_in, rewritten, roster_in, roster_of, unless_empty, with_last, without}
 use Rattle.tr_table.proofs.Indexing.{once_pushed, once_removed}
 use Rattle.tr_model.proofs.Costs.{filter-le-length}
+use Rattle.tr_table.specs.Rows.{blocked_word, runnable_word}
+use Rattle.tr_table.proofs.Members.{at_rank, members_added, members_gone, members_written, others_gone, place_at, rank, rank_within, unmoved}
 use Rattle.tr_table.proofs.Rosters.{in_all, is_of}
 use Rattle.tr_table.proofs.ThreadLists.{ids_append, ids_length, ids_removed, ids_written}
 
@@ -59,34 +63,6 @@ total_front m (t ∷ ts) (suc i) d h = omega (arith, total_front m ts i d (omega
 abbrev pub ids_in : ℕ → List Thread → List ℕ
 ids_in g ts = ids_of (filter (in_group g) ts)
 
-ids_if : (b : Bool) (t : Thread) (ts : List Thread) → ids_of (cond b (t ∷ ts) ts) ≡ cond b (t.id ∷ ids_of ts) (ids_of ts)
-ids_if true t ts = refl
-ids_if false t ts = refl
-
-pub ids_in_written : (g : ℕ) (ts : List Thread) (i : ℕ) (d y : Thread) → i < length ts → y.id ≡ (get_or ts i d).id → y.group ≡ (get_or ts i d).group → ids_in g (set ts i y) ≡ ids_in g ts
-ids_in_written g [] i d y h e k = absurd (omega (arith, h))
-ids_in_written g (t ∷ ts) zero d y h e k = ids_if (y.group == g) y (filter (in_group g) ts) ∙ ((λ j. cond (k j == g) (e j ∷ ids_in g ts) (ids_in g ts)) ∙ sym (ids_if (t.group == g) t (filter (in_group g) ts)))
-ids_in_written g (t ∷ ts) (suc i) d y h e k = go (t.group == g) (ids_in_written g ts i d y (omega (arith, h)) e k)
-  where
-    go : (b : Bool) → ids_in g (set ts i y) ≡ ids_in g ts → ids_of (cond b (t ∷ filter (in_group g) (set ts i y)) (filter (in_group g) (set ts i y))) ≡ ids_of (cond b (t ∷ filter (in_group g) ts) (filter (in_group g) ts))
-    go true r = ap (λ (ns : List ℕ). t.id ∷ ns) r
-    go false r = r
-
-pub ids_in_added : (g : ℕ) (ts : List Thread) (t : Thread) → ids_in g (ts ++ t ∷ []) ≡ (if t.group == g then ids_in g ts ++ t.id ∷ [] else ids_in g ts)
-ids_in_added g [] t = go (t.group == g)
-  where
-    go : (b : Bool) → ids_of (cond b (t ∷ []) []) ≡ (if b then t.id ∷ [] else [])
-    go true = refl
-    go false = refl
-ids_in_added g (u ∷ ts) t = go (u.group == g) (t.group == g) (ids_in_added g ts t)
-  where
-    go : (a b : Bool) → ids_in g (ts ++ t ∷ []) ≡ (if b then ids_in g ts ++ t.id ∷ [] else ids_in g ts)
-        → ids_of (cond a (u ∷ filter (in_group g) (ts ++ t ∷ [])) (filter (in_group g) (ts ++ t ∷ [])))
-        ≡ (if b then ids_of (cond a (u ∷ filter (in_group g) ts) (filter (in_group g) ts)) ++ t.id ∷ [] else ids_of (cond a (u ∷ filter (in_group g) ts) (filter (in_group g) ts)))
-    go true true r = ap (λ (ns : List ℕ). u.id ∷ ns) r
-    go true false r = ap (λ (ns : List ℕ). u.id ∷ ns) r
-    go false b r = r
-
 pub occurs_in : (n : ℕ) (p : Thread → Bool) (ts : List Thread) → occurs n (ids_of (filter p ts)) ≤ occurs n (ids_of ts)
 occurs_in n p [] = omega arith
 occurs_in n p (t ∷ ts) = go (p t) (occurs_in n p ts)
@@ -95,62 +71,23 @@ occurs_in n p (t ∷ ts) = go (p t) (occurs_in n p ts)
     go true r = omega (arith, r)
     go false r = omega (arith, r)
 
-none_out : (n : ℕ) (ns : List ℕ) → occurs n ns ≤ 0 → filter (λ m. not (m == n)) ns ≡ ns
-none_out n [] h = refl
-none_out n (x ∷ xs) h = go (x == n) h (none_out n xs)
-  where
-    go : (b : Bool) → (if b then 1 else 0) + occurs n xs ≤ 0 → (occurs n xs ≤ 0 → filter (λ m. not (m == n)) xs ≡ xs) → cond (not b) (x ∷ filter (λ m. not (m == n)) xs) (filter (λ m. not (m == n)) xs) ≡ x ∷ xs
-    go true k r = absurd (omega (arith, k))
-    go false k r = ap (λ (ns : List ℕ). x ∷ ns) (r (omega (arith, k)))
-
-there : (ts : List Thread) (i : ℕ) (d : Thread) → i < length ts → 1 ≤ occurs (get_or ts i d).id (ids_of ts)
-there [] i d h = absurd (omega (arith, h))
-there (t ∷ ts) zero d h = rw (eq-eqb t.id t.id refl) (omega arith)
-there (t ∷ ts) (suc i) d h = omega (arith, there ts i d (omega (arith, h)))
-
-pub ids_in_gone : (g : ℕ) (ts : List Thread) (i : ℕ) (d : Thread) → i < length ts → ((n : ℕ) → occurs n (ids_of ts) ≤ 1) → ((get_or ts i d).group == g) ≡ true → ids_in g (remove ts i) ≡ filter (λ n. not (n == (get_or ts i d).id)) (ids_in g ts)
-ids_in_gone g [] i d h once e = absurd (omega (arith, h))
-ids_in_gone g (t ∷ ts) zero d h once e =
-    let left : occurs t.id (ids_of ts) ≤ 0 = go (t.id == t.id) (eq-eqb t.id t.id refl) (once t.id) in
-    sym (ap (λ b. filter (λ n. not (n == t.id)) (ids_of (cond b (t ∷ filter (in_group g) ts) (filter (in_group g) ts)))) e ∙ (ap (λ b. cond (not b) (t.id ∷ others) others) (eq-eqb t.id t.id refl) ∙ none_out t.id (ids_in g ts) (omega (arith, left, occurs_in t.id (in_group g) ts))))
-  where
-    others : List ℕ
-    others = filter (λ n. not (n == t.id)) (ids_in g ts)
-
-    go : (b : Bool) → b ≡ true → (if b then 1 else 0) + occurs t.id (ids_of ts) ≤ 1 → occurs t.id (ids_of ts) ≤ 0
-    go true q k = omega (arith, k)
-    go false q k = absurd cc
-ids_in_gone g (t ∷ ts) (suc i) d h once e = go (t.group == g) (ids_in_gone g ts i d (omega (arith, h)) (λ n. omega (arith, once n)) e)
-  where
-    x : ℕ
-    x = (get_or ts i d).id
-
-    apart : (b : Bool) → (t.id == x) ≡ b → (if b then 1 else 0) + occurs x (ids_of ts) ≤ 1 → (t.id == x) ≡ false
-    apart true q k = absurd (omega (arith, k, there ts i d (omega (arith, h))))
-    apart false q k = q
-
-    go : (b : Bool) → ids_in g (remove ts i) ≡ filter (λ n. not (n == x)) (ids_in g ts) → ids_of (cond b (t ∷ filter (in_group g) (remove ts i)) (filter (in_group g) (remove ts i))) ≡ filter (λ n. not (n == x)) (ids_of (cond b (t ∷ filter (in_group g) ts) (filter (in_group g) ts)))
-    go true r = ap (λ (ns : List ℕ). t.id ∷ ns) r ∙ sym (ap (λ b. cond (not b) (t.id ∷ filter (λ n. not (n == x)) (ids_in g ts)) (filter (λ n. not (n == x)) (ids_in g ts))) (apart (t.id == x) refl (once x)))
-    go false r = r
-
-pub ids_in_others : (g : ℕ) (ts : List Thread) (i : ℕ) (d : Thread) → ((get_or ts i d).group == g) ≡ false → ids_in g (remove ts i) ≡ ids_in g ts
-ids_in_others g [] zero d e = refl
-ids_in_others g [] (suc i) d e = refl
-ids_in_others g (t ∷ ts) zero d e = sym (ap (λ b. ids_of (cond b (t ∷ filter (in_group g) ts) (filter (in_group g) ts))) e)
-ids_in_others g (t ∷ ts) (suc i) d e = go (t.group == g) (ids_in_others g ts i d e)
-  where
-    go : (b : Bool) → ids_in g (remove ts i) ≡ ids_in g ts → ids_of (cond b (t ∷ filter (in_group g) (remove ts i)) (filter (in_group g) (remove ts i))) ≡ ids_of (cond b (t ∷ filter (in_group g) ts) (filter (in_group g) ts))
-    go true r = ap (λ (ns : List ℕ). t.id ∷ ns) r
-    go false r = r
+pub placed : (g : ℕ) (ts : List Thread) (i : ℕ) (d : Thread) → i < length ts → ((n : ℕ) → occurs n (ids_of ts) ≤ 1) → ((get_or ts i d).group == g) ≡ true → place_in (get_or ts i d).id (ids_in g ts) ≡ rank g ts i
+placed g ts i d h once e =
+    let ms : List Thread = filter (in_group g) ts in
+    let t : Thread = get_or ts i d in
+    let r : ℕ = rank g ts i in
+    let within : r < length ms = rank_within g ts i d h e in
+    let at : get_or (ids_of ms) r d.id ≡ t.id = get_or-map (λ (x : Thread). x.id) ms r d d.id within ∙ ap (λ (x : Thread). x.id) (at_rank g ts i d h e) in
+    place_at t.id r d.id (ids_of ms) (omega (arith, within, ids_length ms)) at (omega (arith, once t.id, occurs_in t.id (in_group g) ts))
 
 -- the rosters
 
-by_parts : (r s : RosterView) → r.ids ≡ s.ids → r.live ≡ s.live → r.dead ≡ s.dead → r.traced ≡ s.traced → r.marked ≡ s.marked → r ≡ s
-by_parts r s a b c d e = λ j. record { ids = a j; live = b j; dead = c j; traced = d j; marked = e j }
+by_parts : (r s : RosterView) → r.ids ≡ s.ids → r.blocked ≡ s.blocked → r.runnable ≡ s.runnable → r.live ≡ s.live → r.dead ≡ s.dead → r.traced ≡ s.traced → r.marked ≡ s.marked → r ≡ s
+by_parts r s a b c d e f g = λ j. record { ids = a j; blocked = b j; runnable = c j; live = d j; dead = e j; traced = f j; marked = g j }
 
-pub roster_written : (g : ℕ) (ts : List Thread) (i : ℕ) (d y : Thread) → i < length ts → y.id ≡ (get_or ts i d).id → y.group ≡ (get_or ts i d).group
+pub roster_written : (g : ℕ) (ts : List Thread) (i : ℕ) (d y : Thread) → i < length ts → ((n : ℕ) → occurs n (ids_of ts) ≤ 1) → y.id ≡ (get_or ts i d).id → y.group ≡ (get_or ts i d).group
     → roster_of (filter (in_group g) (set ts i y)) ≡ (if (get_or ts i d).group == g then rewritten (get_or ts i d) y (roster_of (filter (in_group g) ts)) else roster_of (filter (in_group g) ts))
-roster_written g ts i d y h e k = go (t.group == g) all
+roster_written g ts i d y h once e k = go (t.group == g) refl all
   where
     t : Thread
     t = get_or ts i d
@@ -164,12 +101,24 @@ roster_written g ts i d y h e k = go (t.group == g) all
     all : (p : Thread → Bool) → length (filter p us) + bool_to_nat (t.group == g && p t) ≡ length (filter p ms) + bool_to_nat (t.group == g && p y)
     all p = omega (arith, counted g p (set ts i y), counted g p ts, total_written (counts g p) ts i d y h, ap (λ (n : ℕ). bool_to_nat (n == g && p y)) k)
 
-    go : (b : Bool) → ((p : Thread → Bool) → length (filter p us) + bool_to_nat (b && p t) ≡ length (filter p ms) + bool_to_nat (b && p y)) → roster_of us ≡ (if b then rewritten t y (roster_of ms) else roster_of ms)
-    go true q = by_parts (roster_of us) (rewritten t y (roster_of ms)) (ids_in_written g ts i d y h e k) (omega (arith, q (λ x. is_live x.life))) (omega (arith, q (λ x. is_dead x.life))) (omega (arith, q is_traced)) (omega (arith, q (λ x. x.stop_mark)))
-    go false q = by_parts (roster_of us) (roster_of ms) (ids_in_written g ts i d y h e k) (omega (arith, q (λ x. is_live x.life))) (omega (arith, q (λ x. is_dead x.life))) (omega (arith, q is_traced)) (omega (arith, q (λ x. x.stop_mark)))
+    r : ℕ
+    r = rank g ts i
+
+    theirs : (t.group == g) ≡ true → us ≡ set ms r y
+    theirs c = members_written g ts i d y h c (ap (λ (n : ℕ). n == g) k ∙ c)
+
+    words : (t.group == g) ≡ true → (f : Thread → ℕ) → map f us ≡ set (map f ms) (place_in t.id (ids_of ms)) (f y)
+    words c f = ap (map f) (theirs c) ∙ (map-set f ms r y ∙ ap (λ (n : ℕ). set (map f ms) n (f y)) (sym (placed g ts i d h once c)))
+
+    ids : (t.group == g) ≡ true → ids_of us ≡ ids_of ms
+    ids c = ap ids_of (theirs c) ∙ map-set_same (λ (x : Thread). x.id) ms r y d (e ∙ ap (λ (x : Thread). x.id) (sym (at_rank g ts i d h c)))
+
+    go : (b : Bool) → (t.group == g) ≡ b → ((p : Thread → Bool) → length (filter p us) + bool_to_nat (b && p t) ≡ length (filter p ms) + bool_to_nat (b && p y)) → roster_of us ≡ (if b then rewritten t y (roster_of ms) else roster_of ms)
+    go true c q = by_parts (roster_of us) (rewritten t y (roster_of ms)) (ids c) (words c blocked_word) (words c runnable_word) (omega (arith, q (λ x. is_live x.life))) (omega (arith, q (λ x. is_dead x.life))) (omega (arith, q is_traced)) (omega (arith, q (λ x. x.stop_mark)))
+    go false c q = ap roster_of (unmoved g ts i d y c (ap (λ (n : ℕ). n == g) k ∙ c))
 
 pub roster_added : (g : ℕ) (ts : List Thread) (t : Thread) → roster_of (filter (in_group g) (ts ++ t ∷ [])) ≡ (if t.group == g then with_last t (roster_of (filter (in_group g) ts)) else roster_of (filter (in_group g) ts))
-roster_added g ts t = go (t.group == g) (ids_in_added g ts t) all
+roster_added g ts t = go (t.group == g) (members_added g ts t) all
   where
     us : List Thread
     us = filter (in_group g) (ts ++ t ∷ [])
@@ -180,9 +129,12 @@ roster_added g ts t = go (t.group == g) (ids_in_added g ts t) all
     all : (p : Thread → Bool) → length (filter p us) ≡ length (filter p ms) + bool_to_nat (t.group == g && p t)
     all p = omega (arith, counted g p (ts ++ t ∷ []), counted g p ts, total-append (counts g p) ts (t ∷ []))
 
-    go : (b : Bool) → ids_of us ≡ (if b then ids_of ms ++ t.id ∷ [] else ids_of ms) → ((p : Thread → Bool) → length (filter p us) ≡ length (filter p ms) + bool_to_nat (b && p t)) → roster_of us ≡ (if b then with_last t (roster_of ms) else roster_of ms)
-    go true e q = by_parts (roster_of us) (with_last t (roster_of ms)) e (q (λ x. is_live x.life)) (q (λ x. is_dead x.life)) (q is_traced) (q (λ x. x.stop_mark))
-    go false e q = by_parts (roster_of us) (roster_of ms) e (omega (arith, q (λ x. is_live x.life))) (omega (arith, q (λ x. is_dead x.life))) (omega (arith, q is_traced)) (omega (arith, q (λ x. x.stop_mark)))
+    words : us ≡ ms ++ t ∷ [] → (f : Thread → ℕ) → map f us ≡ map f ms ++ f t ∷ []
+    words e f = ap (map f) e ∙ map-append f ms (t ∷ [])
+
+    go : (b : Bool) → us ≡ (if b then ms ++ t ∷ [] else ms) → ((p : Thread → Bool) → length (filter p us) ≡ length (filter p ms) + bool_to_nat (b && p t)) → roster_of us ≡ (if b then with_last t (roster_of ms) else roster_of ms)
+    go true e q = by_parts (roster_of us) (with_last t (roster_of ms)) (words e (λ x. x.id)) (words e blocked_word) (words e runnable_word) (q (λ x. is_live x.life)) (q (λ x. is_dead x.life)) (q is_traced) (q (λ x. x.stop_mark))
+    go false e q = ap roster_of e
 
 pub roster_gone : (g : ℕ) (ts : List Thread) (i : ℕ) (d : Thread) → i < length ts → ((n : ℕ) → occurs n (ids_of ts) ≤ 1)
     → roster_of (filter (in_group g) (remove ts i)) ≡ (if (get_or ts i d).group == g then without (get_or ts i d) (roster_of (filter (in_group g) ts)) else roster_of (filter (in_group g) ts))
@@ -200,9 +152,12 @@ roster_gone g ts i d h once = go (t.group == g) refl all
     all : (p : Thread → Bool) → length (filter p us) + bool_to_nat (t.group == g && p t) ≡ length (filter p ms)
     all p = omega (arith, counted g p (remove ts i), counted g p ts, total_gone (counts g p) ts i d h)
 
+    words : (t.group == g) ≡ true → (f : Thread → ℕ) → map f us ≡ remove (map f ms) (place_in t.id (ids_of ms))
+    words c f = ap (map f) (members_gone g ts i d h c) ∙ (map-remove f ms (rank g ts i) ∙ ap (λ (n : ℕ). remove (map f ms) n) (sym (placed g ts i d h once c)))
+
     go : (b : Bool) → (t.group == g) ≡ b → ((p : Thread → Bool) → length (filter p us) + bool_to_nat (b && p t) ≡ length (filter p ms)) → roster_of us ≡ (if b then without t (roster_of ms) else roster_of ms)
-    go true e q = by_parts (roster_of us) (without t (roster_of ms)) (ids_in_gone g ts i d h once e) (omega (arith, q (λ x. is_live x.life))) (omega (arith, q (λ x. is_dead x.life))) (omega (arith, q is_traced)) (omega (arith, q (λ x. x.stop_mark)))
-    go false e q = by_parts (roster_of us) (roster_of ms) (ids_in_others g ts i d e) (omega (arith, q (λ x. is_live x.life))) (omega (arith, q (λ x. is_dead x.life))) (omega (arith, q is_traced)) (omega (arith, q (λ x. x.stop_mark)))
+    go true c q = by_parts (roster_of us) (without t (roster_of ms)) (words c (λ x. x.id)) (words c blocked_word) (words c runnable_word) (omega (arith, q (λ x. is_live x.life))) (omega (arith, q (λ x. is_dead x.life))) (omega (arith, q is_traced)) (omega (arith, q (λ x. x.stop_mark)))
+    go false c q = ap roster_of (others_gone g ts i d c)
 
 pub small : (ms : List Thread) → length ms ≤ 64 → IsSmall (roster_of ms)
 small ms h = record {
@@ -220,6 +175,21 @@ counts_one ts i d h = record { live = all (λ x. is_live x.life); dead = all (λ
 
     all : (p : Thread → Bool) → bool_to_nat (p t) ≤ length (filter p (filter (in_group t.group) ts))
     all p = omega (arith, counted t.group p ts, total_gone (counts t.group p) ts i d h, ap (λ b. bool_to_nat (b && p t)) (eq-eqb t.group t.group refl))
+
+pub row_one : (ts : List Thread) (i : ℕ) (d : Thread) → i < length ts → ((n : ℕ) → occurs n (ids_of ts) ≤ 1) → HasRow (get_or ts i d) (roster_of (filter (in_group (get_or ts i d).group) ts))
+row_one ts i d h once = record { blocked = word blocked_word; runnable = word runnable_word }
+  where
+    t : Thread
+    t = get_or ts i d
+
+    ms : List Thread
+    ms = filter (in_group t.group) ts
+
+    mine : (t.group == t.group) ≡ true
+    mine = eq-eqb t.group t.group refl
+
+    word : (f : Thread → ℕ) → get_or (map f ms) (place_in t.id (ids_of ms)) (f t) ≡ f t
+    word f = ap (λ (n : ℕ). get_or (map f ms) n (f t)) (placed t.group ts i d h once mine) ∙ (get_or-map f ms (rank t.group ts i) d (f t) (rank_within t.group ts i d h mine) ∙ ap f (at_rank t.group ts i d h mine))
 
 -- the group of a thread has a thread
 pub someone : (ts : List Thread) (i : ℕ) (d : Thread) → i < length ts → 0 < length (filter (in_group (get_or ts i d).group) ts)
@@ -245,6 +215,15 @@ module _ (ts : List Thread) (ids : List ℕ) (rs : List (ℕ × RosterView)) (h 
   pub is_counted : (i : ℕ) (d : Thread) → i < length ts → Counts (get_or ts i d) (roster_in rs (get_or ts i d).group)
   is_counted i d k = rw (h.told (get_or ts i d).group) (counts_one ts i d k)
 
+  once_in : (n : ℕ) → occurs n (ids_of ts) ≤ 1
+  once_in n = rw (sym h.indexed) (h.once n)
+
+  pub is_once : (n g : ℕ) → occurs n (roster_in rs g).ids ≤ 1
+  is_once n g = rw (h.told g) (omega (arith, once_in n, occurs_in n (in_group g) ts))
+
+  pub has_row : (i : ℕ) (d : Thread) → i < length ts → HasRow (get_or ts i d) (roster_in rs (get_or ts i d).group)
+  has_row i d k = rw (h.told (get_or ts i d).group) (row_one ts i d k once_in)
+
   pub is_there : (i : ℕ) (d : Thread) → i < length ts → 0 < length (roster_in rs (get_or ts i d).group).ids
   is_there i d k = rw (h.told (get_or ts i d).group) (omega (arith, someone ts i d k, ids_length (filter (in_group (get_or ts i d).group) ts)))
 
@@ -253,8 +232,8 @@ module _ (ts : List Thread) (ids : List ℕ) (rs : List (ℕ × RosterView)) (h 
   kept_written us i d y k e f q = record {
     indexed = h.indexed ∙ sym (ids_written ts i d y e k);
     once = h.once;
-    told = λ g. q g ∙ (ap (λ r. if (get_or ts i d).group == g then rewritten (get_or ts i d) y r else r) (h.told g) ∙ sym (roster_written g ts i d y k e f));
-    few = λ g. omega (arith, h.few g, sym (ids_length (filter (in_group g) ts)), ids_length (filter (in_group g) (set ts i y)), ap (λ (ns : List ℕ). length ns) (ids_in_written g ts i d y k e f));
+    told = λ g. q g ∙ (ap (λ r. if (get_or ts i d).group == g then rewritten (get_or ts i d) y r else r) (h.told g) ∙ sym (roster_written g ts i d y k once_in e f));
+    few = λ g. omega (arith, h.few g, in_all g ts, in_all g (set ts i y), total_written (is_of g) ts i d y k, ap (λ (n : ℕ). one (n == g)) f);
   }
 
   pub kept_gone : (ns : List ℕ) (us : List (ℕ × RosterView)) (i : ℕ) (d : Thread) → i < length ts → ns ≡ remove ids i
@@ -262,15 +241,12 @@ module _ (ts : List Thread) (ids : List ℕ) (rs : List (ℕ × RosterView)) (h 
   kept_gone ns us i d k e q = record {
     indexed = e ∙ (ap (λ (ms : List ℕ). remove ms i) h.indexed ∙ sym (ids_removed ts i));
     once = λ n. rw e (once_removed ids i h.once n);
-    told = λ g. told g (t.group == g) (q g) (roster_gone g ts i d k once);
+    told = λ g. told g (t.group == g) (q g) (roster_gone g ts i d k once_in);
     few = λ g. omega (arith, h.few g, in_all g ts, in_all g (remove ts i), total_gone (is_of g) ts i d k);
   }
     where
       t : Thread
       t = get_or ts i d
-
-      once : (n : ℕ) → occurs n (ids_of ts) ≤ 1
-      once n = rw (sym h.indexed) (h.once n)
 
       told : (g : ℕ) (b : Bool) → roster_in us g ≡ (if b then unless_empty (without t (roster_in rs g)) else roster_in rs g)
           → roster_of (filter (in_group g) (remove ts i)) ≡ (if b then without t (roster_of (filter (in_group g) ts)) else roster_of (filter (in_group g) ts))
@@ -292,15 +268,6 @@ module _ (ts : List Thread) (ids : List ℕ) (rs : List (ℕ × RosterView)) (h 
       fits g (inr e) = omega (arith, in_all g (ts ++ t ∷ []), in_all g ts, total-append (is_of g) ts (t ∷ []), h.few g, ap one (ne_eqb t.group g e))
 
 -- a thread takes the row of a leader that was of another group
-
-pub unmoved : (g : ℕ) (ts : List Thread) (i : ℕ) (d y : Thread) → ((get_or ts i d).group == g) ≡ false → (y.group == g) ≡ false → filter (in_group g) (set ts i y) ≡ filter (in_group g) ts
-unmoved g [] i d y e k = refl
-unmoved g (t ∷ ts) zero d y e k = ap (λ b. cond b (y ∷ filter (in_group g) ts) (filter (in_group g) ts)) k ∙ sym (ap (λ b. cond b (t ∷ filter (in_group g) ts) (filter (in_group g) ts)) e)
-unmoved g (t ∷ ts) (suc i) d y e k = go (t.group == g) (unmoved g ts i d y e k)
-  where
-    go : (b : Bool) → filter (in_group g) (set ts i y) ≡ filter (in_group g) ts → cond b (t ∷ filter (in_group g) (set ts i y)) (filter (in_group g) (set ts i y)) ≡ cond b (t ∷ filter (in_group g) ts) (filter (in_group g) ts)
-    go true r = ap (λ us. t ∷ us) r
-    go false r = r
 
 module _ (ts : List Thread) (ids : List ℕ) (rs : List (ℕ × RosterView)) (h : IsThreads ts ids rs) (i : ℕ) (d : Thread) (k : i < length ts) (l : ℕ) (x y : Thread) (m : l < length (remove ts i)) (same : y.group ≡ (get_or ts i d).group) where
   pub few_moved : (g : ℕ) → length (filter (in_group g) (set (remove ts i) l y)) ≤ 64

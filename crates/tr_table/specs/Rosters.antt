@@ -1,15 +1,21 @@
--- What is kept of each group's threads beside the list of all: their ids and how many of them are in a standing.
-use Rattle.std.specs.Prelude.{◌≡◌, ℕ, ◌+◌, ◌-◌, ◌≤◌, ◌==◌, List, [], ◌∷◌, ◌++◌, filter, length, nat_eq, not, if◌then◌else◌, unwrap_or}
+-- What is kept of each group's threads beside the list of all: their ids, two words of each, and how many of them are in a
+-- standing.
+use Rattle.std.specs.Prelude.{◌≡◌, ℕ, ◌+◌, ◌-◌, ◌≤◌, ◌==◌, List, [], ◌∷◌, ◌++◌, filter, get_or, length, map, nat_eq, remove, set, if◌then◌else◌, unwrap_or}
+use Rattle.std.specs.List.{position_or_len}
 use Rattle.std.specs.Map.{lookup}
 use Rattle.tr_tracee.specs.declared.thread.Thread.{Thread}
 use Rattle.tr_tracee.specs.Lives.{is_dead, is_live}
 use Rattle.tr_tracee.specs.Threads.{is_traced}
 use Rattle.tr_model.specs.Tables.{ids_of}
 use Rattle.tr_table.specs.Held.{bool_to_nat}
+use Rattle.tr_table.specs.Rows.{blocked_word, runnable_word}
 
--- the ids of a group's threads, in table order, and how many are live, are dead, are traced, and have a stop mark
+-- the ids of a group's threads, what each blocks and whether it may take, in table order, and how many are live, are dead,
+-- are traced, and have a stop mark
 pub record RosterView : Type 0 where
   pub ids : List ℕ
+  pub blocked : List ℕ
+  pub runnable : List ℕ
   pub live : ℕ
   pub dead : ℕ
   pub traced : ℕ
@@ -17,12 +23,14 @@ pub record RosterView : Type 0 where
 
 -- that of no threads
 abbrev pub no_one : RosterView
-no_one = record { ids = []; live = 0; dead = 0; traced = 0; marked = 0 }
+no_one = record { ids = []; blocked = []; runnable = []; live = 0; dead = 0; traced = 0; marked = 0 }
 
 -- that of these threads
 abbrev pub roster_of : List Thread → RosterView
 roster_of ts = record {
   ids = ids_of ts;
+  blocked = map blocked_word ts;
+  runnable = map runnable_word ts;
   live = length (filter (λ t. is_live t.life) ts);
   dead = length (filter (λ t. is_dead t.life) ts);
   traced = length (filter is_traced ts);
@@ -33,31 +41,57 @@ roster_of ts = record {
 abbrev pub with_last : Thread → RosterView → RosterView
 with_last t r = record {
   ids = r.ids ++ t.id ∷ [];
+  blocked = r.blocked ++ blocked_word t ∷ [];
+  runnable = r.runnable ++ runnable_word t ∷ [];
   live = r.live + bool_to_nat (is_live t.life);
   dead = r.dead + bool_to_nat (is_dead t.life);
   traced = r.traced + bool_to_nat (is_traced t);
   marked = r.marked + bool_to_nat t.stop_mark;
 }
 
+-- where the number stands first, or the length where it doesn't stand
+abbrev pub place_in : ℕ → List ℕ → ℕ
+place_in n ns = position_or_len (λ m. m == n) ns
+
 -- a thread goes
 abbrev pub without : Thread → RosterView → RosterView
 without t r = record {
-  ids = filter (λ n. not (n == t.id)) r.ids;
+  ids = remove r.ids (place_in t.id r.ids);
+  blocked = remove r.blocked (place_in t.id r.ids);
+  runnable = remove r.runnable (place_in t.id r.ids);
   live = r.live - bool_to_nat (is_live t.life);
   dead = r.dead - bool_to_nat (is_dead t.life);
   traced = r.traced - bool_to_nat (is_traced t);
   marked = r.marked - bool_to_nat t.stop_mark;
 }
 
--- the record of a thread becomes another
-abbrev pub rewritten : Thread → Thread → RosterView → RosterView
-rewritten t u r = record {
+-- the words of the thread with the id are those of this record
+abbrev pub with_words : ℕ → Thread → RosterView → RosterView
+with_words id u r = record {
   ids = r.ids;
+  blocked = set r.blocked (place_in id r.ids) (blocked_word u);
+  runnable = set r.runnable (place_in id r.ids) (runnable_word u);
+  live = r.live;
+  dead = r.dead;
+  traced = r.traced;
+  marked = r.marked;
+}
+
+-- a thread counts as another record
+abbrev pub with_counts : Thread → Thread → RosterView → RosterView
+with_counts t u r = record {
+  ids = r.ids;
+  blocked = r.blocked;
+  runnable = r.runnable;
   live = r.live + bool_to_nat (is_live u.life) - bool_to_nat (is_live t.life);
   dead = r.dead + bool_to_nat (is_dead u.life) - bool_to_nat (is_dead t.life);
   traced = r.traced + bool_to_nat (is_traced u) - bool_to_nat (is_traced t);
   marked = r.marked + bool_to_nat u.stop_mark - bool_to_nat t.stop_mark;
 }
+
+-- the record of a thread becomes another
+abbrev pub rewritten : Thread → Thread → RosterView → RosterView
+rewritten t u r = with_counts t u (with_words t.id u r)
 
 -- no count is above 64
 pub record IsSmall (r : RosterView) : Type 0 where
@@ -73,12 +107,22 @@ pub record Counts (t : Thread) (r : RosterView) : Type 0 where
   pub traced : bool_to_nat (is_traced t) ≤ r.traced
   pub marked : bool_to_nat t.stop_mark ≤ r.marked
 
+-- the words of the thread stand where its id does
+pub record HasRow (t : Thread) (r : RosterView) : Type 0 where
+  pub blocked : get_or r.blocked (place_in t.id r.ids) (blocked_word t) ≡ blocked_word t
+  pub runnable : get_or r.runnable (place_in t.id r.ids) (runnable_word t) ≡ runnable_word t
+
 -- the two count as the same
-pub record Alike (t u : Thread) : Type 0 where
+pub record CountAlike (t u : Thread) : Type 0 where
   pub live : is_live t.life ≡ is_live u.life
   pub dead : is_dead t.life ≡ is_dead u.life
   pub traced : is_traced t ≡ is_traced u
   pub marked : t.stop_mark ≡ u.stop_mark
+
+-- the two have the same words
+pub record HaveSameWords (t u : Thread) : Type 0 where
+  pub blocked : blocked_word t ≡ blocked_word u
+  pub runnable : runnable_word t ≡ runnable_word u
 
 -- nothing is kept of a group without threads
 abbrev pub unless_empty : RosterView → RosterView

@@ -1,5 +1,6 @@
 -- The words of a group's threads: signal n is bit n - 1.
 use Rattle.std.specs.Prelude.{◌≡◌, ℕ, ◌<◌, ◌-◌, ◌^◌, List, [], ◌∷◌, filter, if◌then◌else◌}
+use Rattle.std.specs.List.{All}
 use Rattle.tr_sigset.specs.Sets.{in_word, word_of}
 use Rattle.tr_pending.specs.declared.instance.Instance.{Instance}
 use Rattle.tr_pending.specs.Waiting.{is_waiting}
@@ -23,6 +24,10 @@ pub record IsWord (word : ℕ) (queue : List Instance) : Type 0 where
   pub waits : (n : ℕ) → in_word word n ≡ is_waiting n queue
   pub fits : word < 2 ^ 64
 
+-- each is a word of 64 bits
+abbrev pub AreWords : List ℕ → Type 0
+AreWords words = All (λ word. word < 2 ^ 64) words
+
 -- what a live thread blocks
 abbrev pub blocked_word : Thread → ℕ
 blocked_word t = if is_live t.life then word_of t.mask else 0
@@ -30,6 +35,12 @@ blocked_word t = if is_live t.life then word_of t.mask else 0
 -- all or none, as the thread may take a signal or not
 abbrev pub runnable_word : Thread → ℕ
 runnable_word t = if is_ready_to_take t then 2 ^ 64 - 1 else 0
+
+-- the words of what waits in the own queues of the threads with these ids
+abbrev pub AreOwn : List Waiting → List ℕ → List ℕ → Type 0
+AreOwn ws [] [] = Unit {0}
+AreOwn ws (n ∷ ns) (o ∷ os) = IsWord o (queue_in (target.Thread n) ws) × AreOwn ws ns os
+AreOwn ws _ _ = ⊥
 
 -- the words of one thread
 pub record IsRow (waiting : List Waiting) (t : Thread) (o b r : ℕ) : Type 0 where

@@ -84,11 +84,11 @@ fn move_up(
             let mut renamed = *thread;
             renamed.id = thread.group;
             renamed.report = None;
-            tracing.rewrite(list, index, leader, &renamed);
             list[leader] = renamed;
+            tracing.rewrite(&former, list, index, leader);
             if former.group == thread.group {
                 rosters.remove(thread);
-                rosters.rewrite(&former, &renamed);
+                rosters.rewrite(&former, &renamed, leader);
             } else {
                 rosters.set(thread.group, Roster::collect(list, thread.group));
                 rosters.set(former.group, Roster::collect(list, former.group));

@@ -38,6 +38,7 @@ mod threads;
 mod tracees;
 mod tracing;
 mod unsettled;
+mod words;
 
 pub use good_starts::{are_few, are_good_ids, is_good_group, is_good_name, leads};
 pub use groups::GroupChange;

@@ -1,4 +1,4 @@
-ghost use Rattle.std.specs.Prelude.{◌≡◌, ℕ, ◌+◌, ◌<◌, ◌≤◌, ◌^◌, ◌++◌, ◌∷◌, [], List, Some, false, filter, if◌then◌else◌, is_some, length, true};
+ghost use Rattle.std.specs.Prelude.{◌≡◌, ℕ, ◌+◌, ◌<◌, ◌≤◌, ◌^◌, ◌++◌, ◌∷◌, [], List, Some, false, filter, if◌then◌else◌, is_some, length, option_copied, true};
 ghost use Rattle.indexmap.specs.IndexMap.{get, index_map_len, spare};
 ghost use Rattle.tr_model.specs.Journals.{IsSorted};
 ghost use Rattle.tr_model.specs.Tables.{same_target};
@@ -46,20 +46,23 @@ const EMPTY: Line = Line { first: 0, count: 0 };
 
 /// The value of a key. The key that came last is looked at first.
 #[inline(always)]
-pub(crate) fn find<K: Eq + Hash, V: Copy>(map: &IndexMap<K, V, WordHashing>, key: &K) -> Option<V>
-    ensures { result ≡ get K.eq map.now key.now }
+pub(crate) fn find<'a, K: Eq + Hash, V>(
+    map: &'a IndexMap<K, V, WordHashing>,
+    key: &K,
+) -> Option<&'a V>
+    ensures { option_copied result ≡ get K.eq map.now key.now }
 {
     match map.get_index(map.len().saturating_sub(1)) {
-        Some((last, value)) if *last == *key => Some(*value),
+        Some((last, value)) if *last == *key => Some(value),
         _ => find_other(map, key),
     }
 }
 
 #[inline(never)]
-fn find_other<K: Eq + Hash, V: Copy>(map: &IndexMap<K, V, WordHashing>, key: &K) -> Option<V>
-    ensures { result ≡ get K.eq map.now key.now }
+fn find_other<'a, K: Eq + Hash, V>(map: &'a IndexMap<K, V, WordHashing>, key: &K) -> Option<&'a V>
+    ensures { option_copied result ≡ get K.eq map.now key.now }
 {
-    map.get(key).copied()
+    map.get(key)
 }
 
 /// Writes the value of a key that the map has. The key that came last is looked at first.
@@ -105,7 +108,7 @@ pub(crate) fn find_line(lines: &IndexMap<LineKey, Line, WordHashing>, key: &Line
     ensures { result ≡ line_at lines.now key.now.target key.now.signal }
 {
     match find(lines, key) {
-        Some(line) if line.count != 0 => Some(line),
+        Some(line) if line.count != 0 => Some(*line),
         _ => None,
     }
 }
@@ -138,7 +141,7 @@ pub(crate) fn enter_line(lines: &mut IndexMap<LineKey, Line, WordHashing>, waiti
     ensures len { index_map_len lines.new ≤ index_map_len lines.old + 1 }
 {
     let key = key_of(waiting);
-    match find(lines, &key) {
+    match find(lines, &key).copied() {
         Some(line) => rewrite(lines, &key, longer(&line, waiting.instance.n)),
         None => {
             let line = Line {
@@ -178,7 +181,7 @@ pub(crate) fn enter_queue(queues: &mut IndexMap<Target, Queue, WordHashing>, wai
     ensures places { index_map_len queues.old + spare queues.old
         ≤ index_map_len queues.new + spare queues.new }
 {
-    match find(queues, &waiting.target) {
+    match find(queues, &waiting.target).copied() {
         Some(queue) => rewrite(queues, &waiting.target, wider(&queue, &waiting.instance)),
         None => {
             let queue = Queue {
@@ -285,7 +288,7 @@ pub(crate) fn leave_queue(
     ensures places { index_map_len queues.old + spare queues.old
         ≤ index_map_len queues.new + spare queues.new }
 {
-    if let Some(queue) = find(queues, &waiting.target) {
+    if let Some(queue) = find(queues, &waiting.target).copied() {
         let left = narrower(&queue, waiting.instance.sig, stays);
         rewrite(queues, &waiting.target, left);
     }

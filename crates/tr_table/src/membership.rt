@@ -1,4 +1,4 @@
-ghost use Rattle.std.specs.Prelude.{◌≡◌, ℕ, ◌≤◌, ◌==◌, ◌&&◌, ◌||◌, false, filter, length, true};
+ghost use Rattle.std.specs.Prelude.{◌≡◌, ℕ, ◌≤◌, ◌==◌, ◌&&◌, ◌||◌, [], MatchOption, false, filter, length, true};
 ghost use Rattle.std.specs.Option.{option_map_or};
 ghost use Rattle.std.specs.List.{list_all, list_any};
 ghost use Rattle.tr_sigset.specs.Sets.{has};
@@ -6,7 +6,9 @@ ghost use Rattle.tr_tracee.specs.Lives.{is_dead, is_live};
 ghost use Rattle.tr_tracee.specs.Threads.{in_group, is_traced};
 ghost use Rattle.tr_model.specs.Journals.{occurs};
 ghost use Rattle.tr_model.specs.Tables.{ids_of, thread_in};
+ghost use Rattle.tr_table.specs.Rosters.{roster_of};
 
+use crate::roster_list::Roster;
 use crate::threads::Threads;
 use arrayvec::ArrayVec;
 use tr_sigset::Signal;
@@ -41,6 +43,14 @@ impl Threads {
         ensures once { (n : ℕ) → occurs n (ids_of self.now) ≤ 1 }
     {
         self.rosters.ids(tgid)
+    }
+
+    /// What is kept of the group's threads beside their records. `None` comes where it has none.
+    pub(crate) fn roster(&self, tgid: u32) -> Option<&Roster>
+        ensures { MatchOption result (filter (in_group tgid) self.now ≡ [])
+            (λ r. r.now ≡ roster_of (filter (in_group tgid) self.now)) }
+    {
+        self.rosters.roster(tgid)
     }
 
     pub(crate) fn has_traced(&self, tgid: u32) -> bool

@@ -1,4 +1,4 @@
-ghost use Rattle.std.specs.Prelude.{◌≡◌, ◌==◌, ◌+◌, ◌*◌, ◌<◌, ◌≤◌, ◌++◌, ◌∷◌, [], OnErr, OnOk, false, filter, get_or, length, map, not, set, vec_capacity, vec_len};
+ghost use Rattle.std.specs.Prelude.{◌≡◌, ◌==◌, ◌+◌, ◌*◌, ◌<◌, ◌≤◌, ◌++◌, ◌∷◌, [], OnErr, OnOk, false, filter, get_or, length, map, not, option_copied, set, vec_capacity, vec_len};
 ghost use Rattle.indexmap.specs.IndexMap.{index_map_len};
 ghost use Rattle.std.specs.List.{list_any};
 ghost use Rattle.tr_model.specs.declared.fates.Fate.TheVariants.{Flushed};
@@ -7,7 +7,7 @@ ghost use Rattle.tr_model.specs.Moves.{ending_of, instance_in, retargeted, witho
 ghost use Rattle.tr_pending.specs.Waiting.{IsMask, best_of, first_of, is_waiting};
 ghost use Rattle.tr_table.specs.Changes.{holds, is_flushed, is_picked, queue_in};
 ghost use Rattle.tr_table.specs.Lines.{IsQueue};
-ghost use Rattle.tr_table.specs.Queues.{AllBelow, own_share, without_one};
+ghost use Rattle.tr_table.specs.Queues.{AllBelow, count_own, own_share, without_one};
 ghost use Rattle.tr_table.specs.Slots.{IsPending, emptied, standing};
 ghost use Rattle.tr_table.specs.declared.slots.Slot.{Slot};
 
@@ -91,6 +91,14 @@ impl Pending {
         self.count
     }
 
+    /// Whether something waits for a thread, and not for a group.
+    pub(crate) fn waits_for_threads(&self) -> bool
+        requires { IsPending self.now }
+        ensures { result ≡ not (count_own (standing self.now.slots.items) == 0) }
+    {
+        self.own != 0
+    }
+
     /// Whether something may wait for the target: for a thread, or for a group.
     #[inline(always)]
     fn may_wait(&self, target: Target) -> bool
@@ -105,9 +113,9 @@ impl Pending {
 
     /// What is kept of the target's queue.
     #[inline(always)]
-    fn queue(&self, target: Target) -> Option<Queue>
+    fn queue(&self, target: Target) -> Option<&Queue>
         requires { IsPending self.now }
-        ensures { IsQueue result (queue_in target (standing self.now.slots.items)) }
+        ensures { IsQueue (option_copied result) (queue_in target (standing self.now.slots.items)) }
     {
         if !self.may_wait(target) {
             return None;
@@ -139,6 +147,7 @@ impl Pending {
     }
 
     /// Whether an instance of the signal waits for the target.
+    #[inline(always)]
     pub(crate) fn is_waiting(&self, target: Target, signal: Signal) -> bool
         requires { IsPending self.now }
         ensures { result ≡ is_waiting signal (queue_in target (standing self.now.slots.items)) }

@@ -113,6 +113,7 @@ impl Table {
     }
 
     /// Whether an instance of the signal waits for the target.
+    #[inline(always)]
     pub fn is_waiting(&self, target: Target, signal: Signal) -> bool
         ensures { result ≡ is_waiting signal (queue self.now.table target) }
     {

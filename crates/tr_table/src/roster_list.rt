@@ -1,18 +1,25 @@
 ghost use Rattle.std.specs.Prelude.{◌≡◌, ℕ, ◌<◌, ◌≤◌, ◌==◌, [], filter, MatchOption, OnErr, OnOk, if◌then◌else◌, length, not, true, vec_capacity, vec_len};
-ghost use Rattle.tr_table.specs.Rosters.{Alike, Counts, IsSmall, no_one, rewritten, roster_in, roster_of, unless_empty, with_last, without};
+ghost use Rattle.tr_model.specs.Journals.{occurs};
+ghost use Rattle.tr_table.specs.Rosters.{CountAlike, Counts, HasRow, HaveSameWords, IsSmall, no_one, place_in, rewritten, roster_in, roster_of, unless_empty, with_counts, with_last, with_words, without};
+ghost use Rattle.tr_table.specs.Rows.{AreWords};
 ghost use Rattle.tr_tracee.specs.Threads.{in_group};
 
 use crate::counts::recounted;
 use crate::index::Index;
+use crate::words::{blocked_word, runnable_word};
 use arrayvec::ArrayVec;
 use std::alloc::{AllocError, Global};
 use std::marker::Model;
 use tr_tracee::Thread;
 
-/// The threads of one group: their ids in table order, and how many of them are in a standing.
+/// The threads of one group: their ids and the words of each, in table order, and how many of them are in a standing.
 #[derive(Drop)]
 pub(crate) struct Roster {
     ids: ArrayVec<u32, 64>,
+    blocked: ArrayVec<u64, 64>,
+    runnable: ArrayVec<u64, 64>,
+    /// Where in the table the first of them stood when an id was last looked for, if they stand together there.
+    base: usize,
     live: usize,
     dead: usize,
     traced: usize,
@@ -20,17 +27,36 @@ pub(crate) struct Roster {
 }
 
 impl Model for Roster {
+    ghost use Rattle.std.specs.Prelude.{◌≡◌, length};
     ghost use Rattle.tr_table.specs.Rosters.{RosterView};
+    ghost use Rattle.tr_table.specs.Rows.{AreWords};
 
     ghost Value = { RosterView };
 
     ghost view = { λ r. record {
       ids = r.ids.items;
+      blocked = r.blocked.items;
+      runnable = r.runnable.items;
       live = r.live;
       dead = r.dead;
       traced = r.traced;
       marked = r.marked;
     } };
+
+    ghost invariant = { λ r. (length r.blocked.items ≡ length r.ids.items)
+        × (length r.runnable.items ≡ length r.ids.items)
+        × AreWords r.blocked.items };
+}
+
+/// Where the id stands first, or the length where it doesn't stand.
+fn place_in(ids: &[u32], id: u32) -> usize
+    ensures { result ≡ place_in id ids.now }
+{
+    let mut place = 0;
+    while place < ids.len() && ids[place] != id {
+        place += 1;
+    }
+    place
 }
 
 impl Roster {
@@ -53,11 +79,52 @@ impl Roster {
     {
         Roster {
             ids: ArrayVec::new(),
+            blocked: ArrayVec::new(),
+            runnable: ArrayVec::new(),
+            base: 0,
             live: 0,
             dead: 0,
             traced: 0,
             marked: 0,
         }
+    }
+
+    /// Their ids.
+    pub(crate) fn ids(&self) -> &[u32]
+        ensures { result.now ≡ self.now.ids }
+    {
+        self.ids.as_slice()
+    }
+
+    /// What each of them blocks; 0 where it isn't live.
+    pub(crate) fn blocked(&self) -> &[u64]
+        ensures words { result.now ≡ self.now.blocked }
+        ensures fits { AreWords result.now }
+    {
+        self.blocked.as_slice()
+    }
+
+    /// All ones for each of them that may take, else 0.
+    pub(crate) fn runnable(&self) -> &[u64]
+        ensures { result.now ≡ self.now.runnable }
+    {
+        self.runnable.as_slice()
+    }
+
+    /// Where the id of the thread at a place of the table stands, or the length. It is looked for first where that place
+    /// suggests.
+    fn place(&mut self, id: u32, at: usize) -> usize
+        requires { occurs id self.old.ids ≤ 1 }
+        ensures place { result ≡ place_in id self.old.ids }
+        ensures kept { self.new ≡ self.old }
+    {
+        let likely = at.wrapping_sub(self.base);
+        if likely < self.ids.len() && self.ids[likely] == id {
+            return likely;
+        }
+        let place = place_in(&self.ids, id);
+        self.base = at.wrapping_sub(place);
+        place
     }
 
     /// A thread comes last.
@@ -67,6 +134,8 @@ impl Roster {
         ensures { self.new ≡ with_last thread.now self.old }
     {
         self.ids.push(thread.id);
+        self.blocked.push(blocked_word(thread));
+        self.runnable.push(runnable_word(thread));
         self.live = recounted(self.live, false, thread.life.is_live());
         self.dead = recounted(self.dead, false, thread.life.is_dead());
         self.traced = recounted(self.traced, false, thread.is_traced());
@@ -79,36 +148,88 @@ impl Roster {
         requires counts { Counts thread.now self.old }
         ensures { self.new ≡ without thread.now self.old }
     {
-        let id = thread.id;
-        self.ids.retain(|n| *n != id);
+        let place = place_in(&self.ids, thread.id);
+        if place < self.ids.len() {
+            let _id = self.ids.remove(place);
+            let _blocked = self.blocked.remove(place);
+            let _runnable = self.runnable.remove(place);
+        }
         self.live = recounted(self.live, thread.life.is_live(), false);
         self.dead = recounted(self.dead, thread.life.is_dead(), false);
         self.traced = recounted(self.traced, thread.is_traced(), false);
         self.marked = recounted(self.marked, thread.stop_mark, false);
     }
 
+    /// The words of the thread with the id, at a place of the table, become those of this record.
+    fn rewrite_words(&mut self, id: u32, thread: &Thread, at: usize)
+        requires once { occurs id self.old.ids ≤ 1 }
+        ensures { self.new ≡ with_words id thread.now self.old }
+    {
+        let place = self.place(id, at);
+        if place < self.ids.len() {
+            self.blocked[place] = blocked_word(thread);
+            self.runnable[place] = runnable_word(thread);
+        }
+    }
+
     /// Counts a thread as what it has become.
-    fn rewrite(&mut self, before: &Thread, after: &Thread)
+    fn recount(&mut self, before: &Thread, after: &Thread)
         requires small { IsSmall self.old }
         requires counts { Counts before.now self.old }
-        ensures { self.new ≡ rewritten before.now after.now self.old }
+        ensures { self.new ≡ with_counts before.now after.now self.old }
     {
         self.live = recounted(self.live, before.life.is_live(), after.life.is_live());
         self.dead = recounted(self.dead, before.life.is_dead(), after.life.is_dead());
         self.traced = recounted(self.traced, before.is_traced(), after.is_traced());
         self.marked = recounted(self.marked, before.stop_mark, after.stop_mark);
     }
+
+    /// Takes the thread at a place of the table as what it has become, whose words or counts may be as before.
+    #[inline(always)]
+    fn rewrite(
+        &mut self,
+        before: &Thread,
+        after: &Thread,
+        at: usize,
+        same_words: bool,
+        counts_alike: bool,
+    )
+        requires once { occurs before.now.id self.old.ids ≤ 1 }
+        requires row { HasRow before.now self.old }
+        requires small { IsSmall self.old }
+        requires counts { Counts before.now self.old }
+        requires same_words { same_words ≡ true → HaveSameWords before.now after.now }
+        requires counts_alike { counts_alike ≡ true → CountAlike before.now after.now }
+        ensures { self.new ≡ rewritten before.now after.now self.old }
+    {
+        if !same_words {
+            self.rewrite_words(before.id, after, at);
+        }
+        if !counts_alike {
+            self.recount(before, after);
+        }
+    }
 }
 
 /// Whether two records of a thread count as the same.
 #[inline(always)]
 fn count_alike(before: &Thread, after: &Thread) -> bool
-    ensures { result ≡ true → Alike before.now after.now }
+    ensures { result ≡ true → CountAlike before.now after.now }
 {
     before.stop_mark == after.stop_mark
         && before.is_traced() == after.is_traced()
         && before.life.is_live() == after.life.is_live()
         && before.life.is_dead() == after.life.is_dead()
+}
+
+/// Whether two records of a thread have the same words.
+#[inline(always)]
+fn have_same_words(before: &Thread, after: &Thread) -> bool
+    ensures { result ≡ true → HaveSameWords before.now after.now }
+{
+    before.mask.bits() == after.mask.bits()
+        && before.life.is_live() == after.life.is_live()
+        && before.is_ready_to_take() == after.is_ready_to_take()
 }
 
 /// Makes a place for one more roster; where there is none, for no more, since a roster is large and many tables have one group.
@@ -152,7 +273,8 @@ impl Rosters {
         }
     }
 
-    fn roster(&self, tgid: u32) -> Option<&Roster>
+    /// The roster of a group that has threads.
+    pub(crate) fn roster(&self, tgid: u32) -> Option<&Roster>
         ensures { MatchOption result (roster_in self.now tgid ≡ no_one)
             (λ r. r.now ≡ roster_in self.now tgid) }
     {
@@ -291,10 +413,12 @@ impl Rosters {
         }
     }
 
-    /// A thread of a group has become another one of it.
+    /// The thread at a place of the table has become another one of its group.
     #[inline(always)]
-    pub(crate) fn rewrite(&mut self, before: &Thread, after: &Thread)
+    pub(crate) fn rewrite(&mut self, before: &Thread, after: &Thread, at: usize)
         requires there { 0 < length (roster_in self.old before.now.group).ids }
+        requires once { occurs before.now.id (roster_in self.old before.now.group).ids ≤ 1 }
+        requires row { HasRow before.now (roster_in self.old before.now.group) }
         requires small { IsSmall (roster_in self.old before.now.group) }
         requires counts { Counts before.now (roster_in self.old before.now.group) }
         ensures { (g : ℕ)
@@ -302,12 +426,14 @@ impl Rosters {
             ≡ (if before.now.group == g then rewritten before.now after.now
             (roster_in self.old g) else roster_in self.old g) }
     {
-        if count_alike(before, after) {
+        let same_words = have_same_words(before, after);
+        let counts_alike = count_alike(before, after);
+        if same_words && counts_alike {
             return;
         }
         let Some(place) = self.index.place(before.group) else {
             return;
         };
-        self.list[place].rewrite(before, after);
+        self.list[place].rewrite(before, after, at, same_words, counts_alike);
     }
 }

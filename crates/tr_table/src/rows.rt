@@ -1,8 +1,8 @@
-ghost use Rattle.std.specs.Prelude.{◌≡◌, ◌<◌, ◌≤◌, ◌++◌, ◌∷◌, [], IfSome, filter, is_some, length};
+ghost use Rattle.std.specs.Prelude.{◌≡◌, ℕ, ◌<◌, ◌≤◌, IfSome, filter, is_some, length, replicate};
 ghost use Rattle.tr_tracee.specs.Threads.{in_group};
 ghost use Rattle.tr_model.specs.Tables.{group_of};
 ghost use Rattle.tr_table.specs.Changes.{queue_in};
-ghost use Rattle.tr_table.specs.Rows.{IsRows, IsWord, RowsOf, blocked_word, runnable_word};
+ghost use Rattle.tr_table.specs.Rows.{AreOwn, IsRows, IsWord, RowsOf};
 ghost use Rattle.tr_table.specs.Slots.{IsPending, standing};
 
 use crate::pending::Pending;
@@ -11,59 +11,31 @@ use crate::threads::Threads;
 use arrayvec::ArrayVec;
 use std::marker::Model;
 use tr_model::Target;
-use tr_tracee::Thread;
 
 /// A word for each thread of a group, in table order, and one for the queue that the group shares: signal n is bit
 /// n - 1. As the scans of `tr_lanes` read them.
 #[derive(Drop)]
-pub struct Rows {
+pub struct Rows<'a> {
     own: ArrayVec<u64, 64>,
-    blocked: ArrayVec<u64, 64>,
-    runnable: ArrayVec<u64, 64>,
+    blocked: &'a [u64],
+    runnable: &'a [u64],
     shared: u64,
 }
 
-impl Model for Rows {
+impl<'a> Model for Rows<'a> {
     ghost use Rattle.tr_table.specs.Rows.{RowsView};
 
     ghost Value = { RowsView };
 
     ghost view = { λ r. record {
       own = r.own.items;
-      blocked = r.blocked.items;
-      runnable = r.runnable.items;
+      blocked = r.blocked.now;
+      runnable = r.runnable.now;
       shared = r.shared;
     } };
 }
 
-impl Rows {
-    fn new(shared: u64) -> Rows
-        ensures { result ≡ record { own = []; blocked = []; runnable = []; shared = shared } }
-    {
-        Rows {
-            own: ArrayVec::new(),
-            blocked: ArrayVec::new(),
-            runnable: ArrayVec::new(),
-            shared,
-        }
-    }
-
-    fn push(&mut self, own: u64, blocked: u64, runnable: u64)
-        requires own { length self.old.own < 64 }
-        requires blocked { length self.old.blocked < 64 }
-        requires runnable { length self.old.runnable < 64 }
-        ensures { self.new
-            ≡ record self.old {
-              own = self.old.own ++ own ∷ [];
-              blocked = self.old.blocked ++ blocked ∷ [];
-              runnable = self.old.runnable ++ runnable ∷ [];
-            } }
-    {
-        self.own.push(own);
-        self.blocked.push(blocked);
-        self.runnable.push(runnable);
-    }
-
+impl<'a> Rows<'a> {
     /// What waits in the own queue of each thread.
     pub fn own(&self) -> &[u64]
         ensures { result.now ≡ self.now.own }
@@ -75,14 +47,14 @@ impl Rows {
     pub fn blocked(&self) -> &[u64]
         ensures { result.now ≡ self.now.blocked }
     {
-        self.blocked.as_slice()
+        self.blocked
     }
 
     /// All ones for each thread that is free and has no mark, else 0.
     pub fn runnable(&self) -> &[u64]
         ensures { result.now ≡ self.now.runnable }
     {
-        self.runnable.as_slice()
+        self.runnable
     }
 
     /// What waits in the shared queue.
@@ -96,7 +68,7 @@ impl Rows {
 impl Table {
     /// The words of the group's threads, as they stand now. `None` comes for a group that isn't in the table. It takes no
     /// memory.
-    pub fn rows(&self, tgid: u32) -> Option<Rows>
+    pub fn rows(&self, tgid: u32) -> Option<Rows<'_>>
         ensures there { is_some result ≡ is_some (group_of self.now.table tgid) }
         ensures rows { IfSome result (λ r. RowsOf self.now.table tgid r) }
     {
@@ -113,36 +85,60 @@ fn waiting_word(pending: &Pending, target: Target) -> u64
     pending.mask(target).bits()
 }
 
-fn blocked_word(thread: &Thread) -> u64
-    ensures { result ≡ blocked_word thread.now }
+/// So many words of nothing.
+fn zeros(count: usize) -> ArrayVec<u64, 64>
+    requires { count ≤ 64 }
+    ensures { result.items ≡ replicate count 0 }
 {
-    if thread.life.is_live() {
-        thread.mask.bits()
+    let mut words = ArrayVec::from([0; 64]);
+    words.truncate(count);
+    words
+}
+
+/// The words of what waits for each of these threads.
+fn waiting_words(pending: &Pending, ids: &[u32]) -> ArrayVec<u64, 64>
+    requires few { length ids.now ≤ 64 }
+    requires kept { IsPending pending.now }
+    ensures { AreOwn (standing pending.now.slots.items) ids.now result.items }
+{
+    let mut words = ArrayVec::new();
+    for id in ids {
+        words.push(waiting_word(pending, Target::Thread(*id)));
+    }
+    words
+}
+
+/// The same, where nothing is looked up if nothing waits for any thread of the table.
+fn own_words(pending: &Pending, ids: &[u32]) -> ArrayVec<u64, 64>
+    requires few { length ids.now ≤ 64 }
+    requires kept { IsPending pending.now }
+    ensures { AreOwn (standing pending.now.slots.items) ids.now result.items }
+{
+    if pending.waits_for_threads() {
+        waiting_words(pending, ids)
     } else {
-        0
+        zeros(ids.len())
     }
 }
 
-fn runnable_word(thread: &Thread) -> u64
-    ensures { result ≡ runnable_word thread.now }
-{
-    if thread.is_ready_to_take() {
-        u64::MAX
-    } else {
-        0
-    }
-}
-
-fn rows_of(threads: &Threads, pending: &Pending, tgid: u32) -> Rows
+fn rows_of<'a>(threads: &'a Threads, pending: &Pending, tgid: u32) -> Rows<'a>
     requires few { length (filter (in_group tgid) threads.now) ≤ 64 }
     requires kept { IsPending pending.now }
     ensures { IsRows threads.now (standing pending.now.slots.items) tgid result }
 {
-    let mut rows = Rows::new(waiting_word(pending, Target::Group(tgid)));
-    for id in threads.ids_in(tgid) {
-        let thread = threads.find(*id).unwrap();
-        let own = waiting_word(pending, Target::Thread(thread.id));
-        rows.push(own, blocked_word(thread), runnable_word(thread));
+    let shared = waiting_word(pending, Target::Group(tgid));
+    match threads.roster(tgid) {
+        Some(roster) => Rows {
+            own: own_words(pending, roster.ids()),
+            blocked: roster.blocked(),
+            runnable: roster.runnable(),
+            shared,
+        },
+        None => Rows {
+            own: ArrayVec::new(),
+            blocked: &[],
+            runnable: &[],
+            shared,
+        },
     }
-    rows
 }

@@ -16,8 +16,8 @@ pub enum ThreadChange {
     Mark,
     /// It takes part in the group-stop: its stop mark is served.
     Join,
-    /// It stops, if it runs.
-    Stop,
+    /// It takes part in the group-stop, and stops, if it runs.
+    Halt,
     /// It loses its marks and ends its pause.
     Unmark,
     /// A SIGCONT came to it; the value says whether a group-stop is in effect.
@@ -84,7 +84,10 @@ impl ThreadChange {
             ThreadChange::Pausing(pausing) => thread.set_pausing(*pausing),
             ThreadChange::Mark => thread.mark(),
             ThreadChange::Join => thread.join(),
-            ThreadChange::Stop => thread.stop(),
+            ThreadChange::Halt => {
+                thread.join();
+                thread.stop();
+            }
             ThreadChange::Unmark => thread.unmark(),
             ThreadChange::Continue(in_effect) => {
                 thread.note();

@@ -162,20 +162,7 @@ impl Threads {
         self.list.as_slice()
     }
 
-    /// The record at a place becomes this one, which has its id and its group.
-    pub(crate) fn write(&mut self, place: usize, thread: &Thread)
-        requires place { place < length self.old }
-        requires same { (d : Thread)
-            → (thread.now.id ≡ (get_or self.old place d).id)
-            × (thread.now.group ≡ (get_or self.old place d).group) }
-        ensures { self.new ≡ slice_set self.old place thread.now }
-    {
-        self.rosters.rewrite(&self.list[place], thread);
-        self.tracing.rewrite(&self.list, &self.index, place, thread);
-        self.list[place] = *thread;
-    }
-
-    /// What happens to the thread at a place.
+    /// What happens to the thread at a place. The record changes where it stands.
     pub(crate) fn change_at(&mut self, place: usize, change: &ThreadChange)
         requires { place < length self.old }
         ensures { (d : Thread)
@@ -185,9 +172,11 @@ impl Threads {
         if !change.turns(&self.list[place]) {
             return;
         }
-        let mut thread = self.list[place];
-        change.make(&mut thread);
-        self.write(place, &thread);
+        let former = self.list[place];
+        change.make(&mut self.list[place]);
+        self.rosters.rewrite(&former, &self.list[place], place);
+        self.tracing
+            .rewrite(&former, &self.list, &self.index, place);
     }
 
     /// What happens to the thread with the id.

@@ -173,25 +173,25 @@ impl Tracing {
         }
     }
 
-    /// The thread at a place is to become this one, which has its id.
+    /// The thread at a place has become what stands there; it was this one, which has its id.
     #[inline(always)]
     pub(crate) fn rewrite(
         &mut self,
+        former: &Thread,
         threads: &[Thread],
         index: &Index,
         place: usize,
-        thread: &Thread,
     )
-        requires kept { IsTracing threads.now self.old }
+        requires kept { IsTracing (slice_set threads.now place former.now) self.old }
         requires room { HasPlaces (length threads.now) self.old }
         requires indexed { index.now ≡ ids_of threads.now }
         requires once { (n : ℕ) → occurs n index.now ≤ 1 }
         requires place { place < length threads.now }
-        requires same { (d : Thread) → thread.now.id ≡ (get_or threads.now place d).id }
-        ensures kept { IsTracing (slice_set threads.now place thread.now) self.new }
+        requires same { (d : Thread) → former.now.id ≡ (get_or threads.now place d).id }
+        ensures kept { IsTracing threads.now self.new }
         ensures places { (n : ℕ) → HasPlaces n self.old → HasPlaces n self.new }
     {
-        let former = &threads[place];
+        let thread = &threads[place];
         if !may_be_kept(former) && !may_be_kept(thread) {
             return;
         }

@@ -1,14 +1,15 @@
 use Rattle.std.proofs.Common.{◌≡◌, ◌==◌, ◌<◌, ◌≤◌, ◌∙◌, ℕ, List, Some, filter, length, get_or, remove, set, if◌then◌else◌, arith, ap, refl, subst, sym}
 use Rattle.std.proofs.lemmas.Bool.{ne_eqb}
+use Rattle.std.proofs.lemmas.List.{set-get_or, set-set}
 use Rattle.tr_tracee.specs.declared.thread.Thread.{Thread}
 use Rattle.tr_tracee.specs.Threads.{in_group}
 use Rattle.tr_model.specs.Tables.{ids_of}
 use Rattle.tr_model.specs.Moves.{renamed}
 use Rattle.tr_table.specs.Private.{IsLeaderPlace, IsThreads}
-use Rattle.tr_table.specs.Rosters.{Counts, rewritten, roster_in, roster_of, unless_empty, without}
-use Rattle.tr_table.proofs.ThreadLists.{ids_length, ids_removed}
-use Rattle.tr_table.proofs.Rostering.{few_moved, is_counted, is_small, is_there, is_there_too, kept_gone, kept_moved, kept_written}
-use Rattle.tr_table.specs.Tracing.{HasPlaces}
+use Rattle.tr_table.specs.Rosters.{Counts, HasRow, rewritten, roster_in, roster_of, unless_empty, without}
+use Rattle.tr_table.proofs.ThreadLists.{ids_length, ids_removed, ids_written}
+use Rattle.tr_table.proofs.Rostering.{few_moved, has_row, is_counted, is_once, is_small, is_there, is_there_too, kept_gone, kept_moved, kept_written}
+use Rattle.tr_table.specs.Tracing.{HasPlaces, IsTracing}
 use Rattle.tr_table.proofs.Indexing.{once_removed}
 use Rattle.tr_table.proofs.Tracings.{places_gone, places_written}
 use Rattle.tr_table.proofs.leader_rows.move_up.Goals as goal
@@ -51,6 +52,20 @@ rewrite-requires-then-former-thread-clause-there c =
     let kept = gone c.args.thread.now c.args.list.now.items us c.args.index.now c.remove.new.self c.args.rosters.now c.remove-then-former-thread.new.self c.args.place c.requires.kept c.requires.place c.requires.there c.remove-former.ensures.items c.remove.ensures c.remove-then-former-thread.ensures in
     let here : IsLeaderPlace c.args.thread.now us (Some l) = subst (λ (vs : List Thread). IsLeaderPlace c.args.thread.now vs (Some l)) c.deref-2.ensures.value c.in-Some.ensures in
     subst (λ (u : Thread). 0 < length (roster_in c.remove-then-former-thread.new.self u.group).ids) (sym c.index.ensures) (is_there us c.remove.new.self c.remove-then-former-thread.new.self kept l c.index.result.now here.0)
+
+pub rewrite-requires-then-former-thread-clause-once : goal.rewrite-requires-then-former-thread-clause-once
+rewrite-requires-then-former-thread-clause-once c =
+    let us = c.remove-former.new.self.items in
+    let kept = gone c.args.thread.now c.args.list.now.items us c.args.index.now c.remove.new.self c.args.rosters.now c.remove-then-former-thread.new.self c.args.place c.requires.kept c.requires.place c.requires.there c.remove-former.ensures.items c.remove.ensures c.remove-then-former-thread.ensures in
+    is_once us c.remove.new.self c.remove-then-former-thread.new.self kept c.index.result.now.id c.index.result.now.group
+
+pub rewrite-requires-then-former-thread-clause-row : goal.rewrite-requires-then-former-thread-clause-row
+rewrite-requires-then-former-thread-clause-row c =
+    let us = c.remove-former.new.self.items in
+    let l = c.in-Some.leader in
+    let kept = gone c.args.thread.now c.args.list.now.items us c.args.index.now c.remove.new.self c.args.rosters.now c.remove-then-former-thread.new.self c.args.place c.requires.kept c.requires.place c.requires.there c.remove-former.ensures.items c.remove.ensures c.remove-then-former-thread.ensures in
+    let here : IsLeaderPlace c.args.thread.now us (Some l) = subst (λ (vs : List Thread). IsLeaderPlace c.args.thread.now vs (Some l)) c.deref-2.ensures.value c.in-Some.ensures in
+    subst (λ (u : Thread). HasRow u (roster_in c.remove-then-former-thread.new.self u.group)) (sym c.index.ensures) (has_row us c.remove.new.self c.remove-then-former-thread.new.self kept l c.index.result.now here.0)
 
 pub rewrite-requires-then-former-thread-clause-small : goal.rewrite-requires-then-former-thread-clause-small
 rewrite-requires-then-former-thread-clause-small c =
@@ -151,9 +166,26 @@ returns-else-former-thread-clause-kept c =
     let s = c.collect-else-former-thread.ensures ∙ ap (λ (vs : List Thread). roster_of (filter (in_group x.group) vs)) c.deref-else-former-thread-2.ensures.value in
     moved c.args.list.now.items us c.args.index.now c.remove.new.self c.args.rosters.now c.set.new.self c.set-else-former-thread.new.self c.args.place l t x y c.collect.result c.collect-else-former-thread.result c.requires.kept c.requires.place c.requires.there c.remove-former.ensures.items here.0 c.index.ensures refl (sym (here.1 x)) c.remove.ensures r s c.set.ensures c.set-else-former-thread.ensures
 
+pub rewrite-requires-clause-kept : goal.rewrite-requires-clause-kept
+rewrite-requires-clause-kept c =
+    let us = c.remove-former.new.self.items in
+    let l = c.in-Some.leader in
+    let x = c.index.result.now in
+    let y = renamed c.args.thread.now.group c.args.thread.now in
+    let back : set c.deref-in-Some.result.now l x ≡ us = ap (λ (zs : List Thread). set zs l x) c.deref-in-Some.ensures.value ∙ (set-set us l y x ∙ (ap (λ (z : Thread). set us l z) c.index.ensures ∙ set-get_or us l x)) in
+    let left = subst (λ (zs : List Thread). IsTracing (remove zs c.args.place) c.forget.new.self) c.deref.ensures.value c.forget.ensures.kept in
+    subst (λ (zs : List Thread). IsTracing zs c.forget.new.self) (sym (back ∙ c.remove-former.ensures.items)) left
+
 pub rewrite-requires-clause-indexed : goal.rewrite-requires-clause-indexed
 rewrite-requires-clause-indexed c =
-    c.remove.ensures ∙ (ap (λ (ns : List ℕ). remove ns c.args.place) c.requires.kept.indexed ∙ (sym (ids_removed c.args.list.now.items c.args.place) ∙ ap ids_of (sym (c.deref-in-Some.ensures.value ∙ c.remove-former.ensures.items))))
+    let t = c.args.thread.now in
+    let us = c.remove-former.new.self.items in
+    let l = c.in-Some.leader in
+    let x = c.index.result.now in
+    let y = renamed t.group t in
+    let here : IsLeaderPlace t us (Some l) = subst (λ (vs : List Thread). IsLeaderPlace t vs (Some l)) c.deref-2.ensures.value c.in-Some.ensures in
+    let left : c.remove.new.self ≡ ids_of us = c.remove.ensures ∙ (ap (λ (ns : List ℕ). remove ns c.args.place) c.requires.kept.indexed ∙ (sym (ids_removed c.args.list.now.items c.args.place) ∙ ap ids_of (sym c.remove-former.ensures.items))) in
+    left ∙ sym (ap ids_of c.deref-in-Some.ensures.value ∙ ids_written us l x y (sym (here.1 x)) here.0)
 
 pub rewrite-requires-clause-once : goal.rewrite-requires-clause-once
 rewrite-requires-clause-once c n = rw c.remove.ensures (once_removed c.args.index.now c.args.place c.requires.kept.once n)

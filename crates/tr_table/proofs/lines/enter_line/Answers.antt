@@ -10,7 +10,7 @@ use Rattle.tr_table.proofs.lines.enter_line.Goals as goal
 pub longer-requires : goal.longer-requires
 longer-requires c =
     let w = c.args.waiting.now in
-    let here = line_found c.args.lines.now w c.key_of-key.result (Some c.in-Some.line) c.key_of-key.ensures (sym c.find.ensures ∙ c.in-Some.is) in
+    let here = line_found c.args.lines.now w c.key_of-key.result (Some c.in-Some.line) c.key_of-key.ensures (sym c.find.ensures ∙ sym c.copied.ensures ∙ c.in-Some.is) in
     longer_few c.in-Some.line (line_at c.args.lines.now w.target w.instance.sig) here c.requires.few
 
 pub returns-in-Some-clause-get : goal.returns-in-Some-clause-get
@@ -18,7 +18,7 @@ returns-in-Some-clause-get c =
     let w = c.args.waiting.now in
     let L = c.args.lines.now in
     let key = c.key_of-key.result in
-    let here = line_found L w key (Some c.in-Some.line) c.key_of-key.ensures (sym c.find.ensures ∙ c.in-Some.is) in
+    let here = line_found L w key (Some c.in-Some.line) c.key_of-key.ensures (sym c.find.ensures ∙ sym c.copied.ensures ∙ c.in-Some.is) in
     let line = c.longer.ensures ∙ ap (longer w.instance.n) (sym here) in
     λ q s. line_written L c.rewrite.new.map w key c.longer.result c.key_of-key.ensures c.rewrite.ensures.get q s
     ∙ ap (λ l. if is_key w q s then l else line_at L q s) (ap (λ l. unless_empty (Some l)) line ∙ longer_stays w.instance.n (line_at L w.target w.instance.sig))
@@ -28,7 +28,7 @@ returns-in-None-clause-get c =
     let w = c.args.waiting.now in
     let L = c.args.lines.now in
     let key = c.key_of-key.result in
-    let here = line_found L w key None c.key_of-key.ensures (sym c.find.ensures ∙ c.in-None.is) in
+    let here = line_found L w key None c.key_of-key.ensures (sym c.find.ensures ∙ sym c.copied.ensures ∙ c.in-None.is) in
     let line : Line = record { first = w.instance.n; count = 1 } in
     let wrote : (k : LineKey) → get key_test.ghosts.eq c.insert.new.self k ≡ (if key_test.ghosts.eq key k then Some line else get key_test.ghosts.eq L k) = λ k. search rules in
     λ q s. line_written L c.insert.new.self w key line c.key_of-key.ensures wrote q s

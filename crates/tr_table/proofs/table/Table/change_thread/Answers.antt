@@ -7,7 +7,7 @@ use Rattle.tr_table.specs.Changes.{thread_changed_by}
 use Rattle.tr_table.specs.View.{View}
 use Rattle.tr_table.proofs.Keeping.{same_changed}
 use Rattle.tr_table.proofs.Onlys.{only_changed}
-use Rattle.tr_table.proofs.Rostering.{unmoved}
+use Rattle.tr_table.proofs.Members.{unmoved}
 use Rattle.tr_table.proofs.Rosters.{roster_set}
 use Rattle.tr_table.proofs.Unsettling.{by_members, moved}
 use Rattle.tr_table.proofs.table.Table.change_thread.Goals as goal
