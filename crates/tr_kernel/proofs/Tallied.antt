@@ -1,11 +1,9 @@
 -- How many numbers have each fate, where one number's fate changes and where numbers are added.
-use Rattle.std.proofs.Common.{◌≡◌, ℕ, zero, suc, ◌+◌, ◌≤◌, ◌<◌, List, [], ◌∷◌, ◌++◌, length, length-append, length-set, filter, replicate, get_or, set, Bool, true, false, if◌then◌else◌, refl, ap, ◌∙◌, arith}
-use Rattle.std.proofs.lemmas.List.{length-replicate}
+use Rattle.std.proofs.Common.{◌≡◌, ℕ, zero, suc, ◌+◌, ◌≤◌, ◌<◌, List, [], ◌∷◌, ◌++◌, length, length-set, filter, replicate, get_or, set, Bool, true, false, if◌then◌else◌, refl, ap, arith}
 use Rattle.tr_model.specs.declared.fates.Fate.{Fate}
 use Rattle.tr_model.specs.declared.fates.Fate.TheVariants.{Pending, Merged, Delivered, Suppressed, Flushed}
-use Rattle.tr_model.specs.declared.fates.Totals.{Totals}
 use Rattle.tr_model.specs.Journals.{same_fate}
-use Rattle.tr_kernel.specs.Private.{MovesOne, count_of, of_fate, tally}
+use Rattle.tr_kernel.specs.Private.{count_of, counted_under, counts_of}
 use Rattle.tr_kernel.proofs.Noted.{count_append}
 
 -- 1 for a fate that is this one
@@ -40,58 +38,44 @@ count_set f g (x ∷ fs) zero d l p = omega (arith, count_first f g fs, count_fi
     pending Flushed q = absurd cc
 count_set f g (x ∷ fs) (suc i) d l p = omega (arith, count_first f x (set fs i g), count_first f x fs, count_set f g fs i d (omega arith) p)
 
-pub some_pending : (fs : List Fate) (i : ℕ) (d : Fate) → i < length fs → same_fate Pending (get_or fs i d) ≡ true → 0 < count_of Pending fs
-some_pending fs i d l p = omega (arith, count_set Pending Merged fs i d l p)
+-- a number with another fate, or with this one, once a pending number got this one
+stays : (f g : Fate) (fs : List Fate) (i : ℕ) (d : Fate) → i < length fs → same_fate Pending (get_or fs i d) ≡ true → one_of f Pending ≡ 0 → one_of f g ≡ 0 → count_of f (set fs i g) ≡ count_of f fs
+stays f g fs i d l p o n = omega (arith, count_set f g fs i d l p, o, n)
 
-pub tally_set : (t u : Totals) (g : Fate) (fs : List Fate) (i : ℕ) (d : Fate) → t ≡ tally fs (length fs) → MovesOne g t u → i < length fs → same_fate Pending (get_or fs i d) ≡ true → u ≡ tally (set fs i g) (length fs)
-tally_set t u g fs i d h m l p =
-    rw (m.accepted ∙ ap (λ (x : Totals). x.accepted) h, is Pending, is Merged, is Delivered, is Suppressed, is Flushed) refl
-  where
-    is : (f : Fate) → of_fate f u ≡ count_of f (set fs i g)
-    is f = omega (arith, m.counts f, count_set f g fs i d l p, was f)
-      where
-        was : (f : Fate) → of_fate f t ≡ count_of f fs
-        was Pending = ap (λ (x : Totals). x.pending) h
-        was Merged = ap (λ (x : Totals). x.merged) h
-        was Delivered = ap (λ (x : Totals). x.delivered) h
-        was Suppressed = ap (λ (x : Totals). x.suppressed) h
-        was Flushed = ap (λ (x : Totals). x.flushed) h
+grows : (f : Fate) (fs : List Fate) (i : ℕ) (d : Fate) → i < length fs → same_fate Pending (get_or fs i d) ≡ true → one_of f Pending ≡ 0 → one_of f f ≡ 1 → count_of f (set fs i f) ≡ count_of f fs + 1
+grows f fs i d l p o n = omega (arith, count_set f f fs i d l p, o, n)
+
+pub counts_set : (g : Fate) (fs : List Fate) (i : ℕ) (d : Fate) → i < length fs → same_fate Pending (get_or fs i d) ≡ true → counted_under g (counts_of fs) ≡ counts_of (set fs i g)
+counts_set Pending fs i d l p = rw (stays Merged Pending fs i d l p refl refl, stays Delivered Pending fs i d l p refl refl, stays Suppressed Pending fs i d l p refl refl, stays Flushed Pending fs i d l p refl refl) refl
+counts_set Merged fs i d l p = rw (grows Merged fs i d l p refl refl, stays Delivered Merged fs i d l p refl refl, stays Suppressed Merged fs i d l p refl refl, stays Flushed Merged fs i d l p refl refl) refl
+counts_set Delivered fs i d l p = rw (stays Merged Delivered fs i d l p refl refl, grows Delivered fs i d l p refl refl, stays Suppressed Delivered fs i d l p refl refl, stays Flushed Delivered fs i d l p refl refl) refl
+counts_set Suppressed fs i d l p = rw (stays Merged Suppressed fs i d l p refl refl, stays Delivered Suppressed fs i d l p refl refl, grows Suppressed fs i d l p refl refl, stays Flushed Suppressed fs i d l p refl refl) refl
+counts_set Flushed fs i d l p = rw (stays Merged Flushed fs i d l p refl refl, stays Delivered Flushed fs i d l p refl refl, stays Suppressed Flushed fs i d l p refl refl, grows Flushed fs i d l p refl refl) refl
 
 -- one more number can have a fate that isn't Pending
-pub one_more : (t : Totals) (f : Fate) (fs : List Fate) (i : ℕ) (d : Fate) → t ≡ tally fs (length fs) → same_fate f Pending ≡ false → i < length fs → same_fate Pending (get_or fs i d) ≡ true → of_fate f t + 1 ≤ length fs
-one_more t f fs i d h n l p = omega (arith, ap (of_fate f) h, is f, count_set f f fs i d l p, count_few f (set fs i f), same f, other f n, length-set fs i f)
+pub one_more : (f : Fate) (fs : List Fate) (i : ℕ) (d : Fate) → one_of f Pending ≡ 0 → one_of f f ≡ 1 → i < length fs → same_fate Pending (get_or fs i d) ≡ true → count_of f fs + 1 ≤ length fs
+one_more f fs i d o n l p = omega (arith, grows f fs i d l p o n, count_few f (set fs i f), length-set fs i f)
+
+-- every number has one of the fates
+pub all_counted : (fs : List Fate) → count_of Pending fs + count_of Merged fs + count_of Delivered fs + count_of Suppressed fs + count_of Flushed fs ≡ length fs
+all_counted [] = refl
+all_counted (g ∷ fs) = omega (arith, count_first Pending g fs, count_first Merged g fs, count_first Delivered g fs, count_first Suppressed g fs, count_first Flushed g fs, all_counted fs, one g)
   where
-    is : (f : Fate) → of_fate f (tally fs (length fs)) ≡ count_of f fs
-    is Pending = refl
-    is Merged = refl
-    is Delivered = refl
-    is Suppressed = refl
-    is Flushed = refl
-
-    same : (f : Fate) → one_of f f ≡ 1
-    same Pending = refl
-    same Merged = refl
-    same Delivered = refl
-    same Suppressed = refl
-    same Flushed = refl
-
-    other : (f : Fate) → same_fate f Pending ≡ false → one_of f Pending ≡ 0
-    other f q = rw q refl
+    one : (g : Fate) → one_of Pending g + one_of Merged g + one_of Delivered g + one_of Suppressed g + one_of Flushed g ≡ 1
+    one Pending = refl
+    one Merged = refl
+    one Delivered = refl
+    one Suppressed = refl
+    one Flushed = refl
 
 -- More numbers, all pending
-
-count_pending : (n : ℕ) → count_of Pending (replicate n Pending) ≡ n
-count_pending zero = refl
-count_pending (suc n) = ap suc (count_pending n)
 
 count_other : (f : Fate) → same_fate f Pending ≡ false → (n : ℕ) → count_of f (replicate n Pending) ≡ 0
 count_other f q zero = refl
 count_other f q (suc n) = omega (arith, count_first f Pending (replicate n Pending), count_other f q n, ap {B = ℕ} (λ b. if b then 1 else 0) q)
 
-pub tally_more : (t : Totals) (fs : List Fate) (n : ℕ) → t ≡ tally fs (length fs)
-    → record t { accepted = t.accepted + n; pending = t.pending + n } ≡ tally (fs ++ replicate n Pending) (length (fs ++ replicate n Pending))
-tally_more t fs n h =
-    rw (h, length-append fs (replicate n Pending), length-replicate n Pending, count_append Pending fs (replicate n Pending), count_pending n, same Merged refl, same Delivered refl, same Suppressed refl, same Flushed refl) refl
+pub counts_more : (fs : List Fate) (n : ℕ) → counts_of fs ≡ counts_of (fs ++ replicate n Pending)
+counts_more fs n = rw (same Merged refl, same Delivered refl, same Suppressed refl, same Flushed refl) refl
   where
     same : (f : Fate) → same_fate f Pending ≡ false → count_of f (fs ++ replicate n Pending) ≡ count_of f fs
     same f q = omega (arith, count_append f fs (replicate n Pending), count_other f q n)

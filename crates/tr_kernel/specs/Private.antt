@@ -23,6 +23,7 @@ use Rattle.tr_model.specs.Steps.{after, is_new, number, takes, took_reply, waite
 use Rattle.tr_model.specs.Tables.{Table, thread_of}
 use Rattle.tr_model.specs.Waits.{ready_thread}
 use Rattle.tr_steps.specs.UnderWay.{UnderWay}
+use Rattle.tr_kernel.specs.declared.fates.EndedCounts.{EndedCounts}
 use Rattle.tr_kernel.specs.declared.notes.EntryFact.{EntryFact}
 use Rattle.tr_kernel.specs.declared.notes.EntryFact.TheVariants.{Nothing, Take, Exec}
 use Rattle.tr_kernel.specs.declared.notes.Note.{Note}
@@ -54,14 +55,6 @@ IsFixed T a e c = check T a e ≡ Ok (Due c)
 abbrev pub count_of : Fate → List Fate → ℕ
 count_of f fs = length (filter (same_fate f) fs)
 
--- how many of the totals have this fate
-abbrev pub of_fate : Fate → Totals → ℕ
-of_fate Pending t = t.pending
-of_fate Merged t = t.merged
-of_fate Delivered t = t.delivered
-of_fate Suppressed t = t.suppressed
-of_fate Flushed t = t.flushed
-
 -- how many numbers have each fate
 abbrev pub tally : List Fate → ℕ → Totals
 tally fs accepted = record {
@@ -73,10 +66,22 @@ tally fs accepted = record {
   flushed = count_of Flushed fs;
 }
 
+-- how many have ended, by their fates
+abbrev pub counts_of : List Fate → EndedCounts
+counts_of fs = record {
+  merged = count_of Merged fs;
+  delivered = count_of Delivered fs;
+  suppressed = count_of Suppressed fs;
+  flushed = count_of Flushed fs;
+}
+
 -- a number that was pending is counted under its fate
-pub record MovesOne (fate : Fate) (old new : Totals) : Type 0 where
-  pub accepted : new.accepted ≡ old.accepted
-  pub counts : (f : Fate) → of_fate f new + (if same_fate f Pending then 1 else 0) ≡ of_fate f old + (if same_fate f fate then 1 else 0)
+abbrev pub counted_under : Fate → EndedCounts → EndedCounts
+counted_under Pending n = n
+counted_under Merged n = record n { merged = n.merged + 1 }
+counted_under Delivered n = record n { delivered = n.delivered + 1 }
+counted_under Suppressed n = record n { suppressed = n.suppressed + 1 }
+counted_under Flushed n = record n { flushed = n.flushed + 1 }
 
 -- what has ended stays so
 abbrev pub first_of : Fate → Fate → Fate

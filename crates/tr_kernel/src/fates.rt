@@ -1,24 +1,33 @@
 ghost use Rattle.std.specs.Prelude.{◌≡◌, ◌++◌, ◌+◌, ◌≤◌, ◌<◌, ◌-◌, ◌∷◌, [], None, OnErr, OnOk, length, replicate, slice_get, vec_len, vec_capacity};
 ghost use Rattle.tr_model.specs.declared.fates.Fate.TheVariants.{Pending};
 ghost use Rattle.tr_model.specs.Journals.{same_fate};
-ghost use Rattle.tr_kernel.specs.Private.{MovesOne, ending_noted, endings_noted, tally};
+ghost use Rattle.tr_kernel.specs.Private.{counted_under, ending_noted, endings_noted, tally};
 
 use crate::lists::at_position;
 use std::alloc::{AllocError, Global};
 use std::marker::Model;
 use tr_model::{Ending, Fate, Totals};
 
+/// How many numbers have ended, by their fates. All others are pending.
+#[derive(Clone, Copy)]
+struct EndedCounts {
+    merged: u64,
+    delivered: u64,
+    suppressed: u64,
+    flushed: u64,
+}
+
 /// The fate of each accepted number, that of number n at place n - 1, and how many have each fate.
 #[derive(Drop)]
 pub(crate) struct Fates {
     list: Vec<Fate>,
-    totals: Totals,
+    counts: EndedCounts,
 }
 
 impl Model for Fates {
-    ghost use Rattle.std.specs.Prelude.{◌≡◌, ◌-◌, length, vec_capacity, vec_len};
+    ghost use Rattle.std.specs.Prelude.{◌≡◌, ◌-◌, vec_capacity, vec_len};
     ghost use Rattle.tr_kernel.specs.Kept.{FateList};
-    ghost use Rattle.tr_kernel.specs.Private.{tally};
+    ghost use Rattle.tr_kernel.specs.Private.{counts_of};
 
     ghost Value = { FateList };
 
@@ -27,7 +36,7 @@ impl Model for Fates {
       room = vec_capacity f.list - vec_len f.list;
     } };
 
-    ghost invariant = { λ f. f.totals ≡ tally f.list.items (length f.list.items) };
+    ghost invariant = { λ f. f.counts ≡ counts_of f.list.items };
 }
 
 fn same_fate(a: Fate, b: Fate) -> bool
@@ -36,24 +45,24 @@ fn same_fate(a: Fate, b: Fate) -> bool
     a as u8 == b as u8
 }
 
-/// Counts a number that was pending under its fate.
-#[inline(always)]
-fn move_one(totals: &mut Totals, fate: Fate)
-    requires pending { 0 < totals.old.pending }
-    requires merged { totals.old.merged + 1 < 18446744073709551616 }
-    requires delivered { totals.old.delivered + 1 < 18446744073709551616 }
-    requires suppressed { totals.old.suppressed + 1 < 18446744073709551616 }
-    requires flushed { totals.old.flushed + 1 < 18446744073709551616 }
-    ensures { MovesOne fate totals.old totals.new }
-{
-    match fate {
-        Fate::Pending => return,
-        Fate::Merged => totals.merged += 1,
-        Fate::Delivered => totals.delivered += 1,
-        Fate::Suppressed => totals.suppressed += 1,
-        Fate::Flushed => totals.flushed += 1,
+impl EndedCounts {
+    /// Counts a number that was pending under its fate.
+    #[inline(always)]
+    fn add(&mut self, fate: Fate)
+        requires merged { self.old.merged + 1 < 18446744073709551616 }
+        requires delivered { self.old.delivered + 1 < 18446744073709551616 }
+        requires suppressed { self.old.suppressed + 1 < 18446744073709551616 }
+        requires flushed { self.old.flushed + 1 < 18446744073709551616 }
+        ensures { self.new ≡ counted_under fate self.old }
+    {
+        match fate {
+            Fate::Pending => {}
+            Fate::Merged => self.merged += 1,
+            Fate::Delivered => self.delivered += 1,
+            Fate::Suppressed => self.suppressed += 1,
+            Fate::Flushed => self.flushed += 1,
+        }
     }
-    totals.pending -= 1;
 }
 
 impl Fates {
@@ -62,9 +71,7 @@ impl Fates {
     {
         Fates {
             list: Vec::new(alloc),
-            totals: Totals {
-                accepted: 0,
-                pending: 0,
+            counts: EndedCounts {
                 merged: 0,
                 delivered: 0,
                 suppressed: 0,
@@ -100,7 +107,17 @@ impl Fates {
     pub(crate) fn totals(&self) -> Totals
         ensures { result ≡ tally self.now.fates (length self.now.fates) }
     {
-        self.totals
+        let counts = self.counts;
+        let accepted = self.list.len() as u64;
+        let ended = counts.merged + counts.delivered + counts.suppressed + counts.flushed;
+        Totals {
+            accepted,
+            pending: accepted - ended,
+            merged: counts.merged,
+            delivered: counts.delivered,
+            suppressed: counts.suppressed,
+            flushed: counts.flushed,
+        }
     }
 
     /// Appends this many accepted numbers, whose fate is open.
@@ -111,8 +128,6 @@ impl Fates {
         ensures room { self.old.room ≤ self.new.room + more }
     {
         append_pending(&mut self.list, more);
-        self.totals.accepted += more as u64;
-        self.totals.pending += more as u64;
     }
 
     /// Writes down what ended.
@@ -135,7 +150,7 @@ impl Fates {
             && same_fate(Fate::Pending, self.list[place - 1])
         {
             self.list[place - 1] = ending.fate;
-            move_one(&mut self.totals, ending.fate);
+            self.counts.add(ending.fate);
         }
     }
 }

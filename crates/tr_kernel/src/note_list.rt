@@ -1,4 +1,4 @@
-ghost use Rattle.std.specs.Prelude.{◌≡◌, ◌++◌, ◌+◌, ◌-◌, ◌<◌, ◌≤◌, ◌∷◌, ◌^◌, [], None, OnErr, OnOk, false, length, nat_le, slice_get, true};
+ghost use Rattle.std.specs.Prelude.{◌≡◌, ◌↔◌, ◌++◌, ◌+◌, ◌-◌, ◌<◌, ◌≤◌, ◌∷◌, ◌^◌, [], IsTrue, None, OnErr, OnOk, false, length, nat_le, slice_get, true};
 ghost use Rattle.tr_kernel.specs.Kept.{AreWithin, IsUpto, blank, deaths_of, fact_of, is_blank, note_upto, noted};
 
 use crate::notes::{EntryFact, Note, Stopped, TakenFrom};
@@ -181,6 +181,14 @@ impl NoteList {
         ensures room { OnOk result (0 < self.new.room) }
     {
         self.kept.reserve(1)
+    }
+
+    /// Whether there is room for one more note.
+    #[inline(always)]
+    pub(crate) fn has_room(&self) -> bool
+        ensures { IsTrue result ↔ 0 < self.now.room }
+    {
+        self.kept.len() < self.kept.capacity()
     }
 
     /// Appends the note of an entry that is nothing to the laws, after so many deaths, where as many had begun after the
