@@ -103,6 +103,18 @@ noted_closed n x (f ∷ fs) (suc i) d e h o = ap₂ (λ g gs. g ∷ gs) (go (x.n
 pub noted_none : (x : Ending) (fs : List Fate) → x.number ≡ 0 → fs ≡ ending_noted 1 x fs
 noted_none x fs h = noted_before 1 x fs (omega arith)
 
+pub noted_last : (n : ℕ) (x : Ending) (fs : List Fate) → x.number ≡ n + length fs → fs ++ x.fate ∷ [] ≡ ending_noted n x (fs ++ Pending ∷ [])
+noted_last n x [] e = ap (λ f. f ∷ []) (go (x.number == n) (eq-eqb x.number n (omega arith)))
+  where
+    go : (b : Bool) → b ≡ true → x.fate ≡ (if b then first_of Pending x.fate else Pending)
+    go true q = refl
+    go false q = absurd cc
+noted_last n x (f ∷ fs) e = ap₂ (λ g gs. g ∷ gs) (go (x.number == n) (ne_eqb x.number n (λ q. omega arith))) (noted_last (suc n) x fs (omega arith))
+  where
+    go : (b : Bool) → b ≡ false → f ≡ (if b then first_of f x.fate else f)
+    go true q = absurd cc
+    go false q = refl
+
 -- More numbers
 
 pub not_ended : (E : List Ending) (n : ℕ) → occurs n (numbers_of E) ≡ 0 → ended_as E n ≡ None

@@ -168,10 +168,9 @@ behind k l ks =
     let there : length (k ∷ l ∷ ks) - 1 ≡ suc (length ks) = omega arith in
     ap (slice_get (l ∷ ks)) here ∙ ap (slice_get (k ∷ l ∷ ks)) (sym there)
 
-pub last_deaths : (d : ℕ) (ks : List KeptNote) (x : KeptNote) → slice_get ks (length ks - 1) ≡ Some x → x.deaths ≡ deaths_of d ks
-last_deaths d [] x h = absurd (none-some x h)
-last_deaths d (k ∷ []) x h = ap (λ (y : KeptNote). y.deaths) (sym (same_Some k x h))
-last_deaths d (k ∷ l ∷ ks) x h = last_deaths k.deaths (l ∷ ks) x (behind k l ks ∙ h)
+pub deaths_push : (d : ℕ) (ks : List KeptNote) (k : KeptNote) → k.deaths ≡ deaths_of d (ks ++ k ∷ [])
+deaths_push d [] k = refl
+deaths_push d (x ∷ ks) k = deaths_push x.deaths ks k
 
 pub last_upto : (d p : ℕ) (ks : List KeptNote) (x : KeptNote) → slice_get ks (length ks - 1) ≡ Some x → note_upto d p ks ≡ (if x.place == p then noted x else blank x.deaths)
 last_upto d p [] x h = absurd (none-some x h)

@@ -38,23 +38,32 @@ count_set f g (x ∷ fs) zero d l p = omega (arith, count_first f g fs, count_fi
     pending Flushed q = absurd cc
 count_set f g (x ∷ fs) (suc i) d l p = omega (arith, count_first f x (set fs i g), count_first f x fs, count_set f g fs i d (omega arith) p)
 
--- a number with another fate, or with this one, once a pending number got this one
-stays : (f g : Fate) (fs : List Fate) (i : ℕ) (d : Fate) → i < length fs → same_fate Pending (get_or fs i d) ≡ true → one_of f Pending ≡ 0 → one_of f g ≡ 0 → count_of f (set fs i g) ≡ count_of f fs
-stays f g fs i d l p o n = omega (arith, count_set f g fs i d l p, o, n)
+stays : (f g : Fate) (fs gs : List Fate) → count_of f gs ≡ count_of f fs + one_of f g → one_of f g ≡ 0 → count_of f gs ≡ count_of f fs
+stays f g fs gs e o = omega (arith, e, o)
 
-grows : (f : Fate) (fs : List Fate) (i : ℕ) (d : Fate) → i < length fs → same_fate Pending (get_or fs i d) ≡ true → one_of f Pending ≡ 0 → one_of f f ≡ 1 → count_of f (set fs i f) ≡ count_of f fs + 1
-grows f fs i d l p o n = omega (arith, count_set f f fs i d l p, o, n)
+grows : (f g : Fate) (fs gs : List Fate) → count_of f gs ≡ count_of f fs + one_of f g → one_of f g ≡ 1 → count_of f gs ≡ count_of f fs + 1
+grows f g fs gs e o = omega (arith, e, o)
+
+-- one more number has this fate, of all but Pending
+counted_is : (g : Fate) (fs gs : List Fate) → ((f : Fate) → same_fate f Pending ≡ false → count_of f gs ≡ count_of f fs + one_of f g) → counted_under g (counts_of fs) ≡ counts_of gs
+counted_is Pending fs gs h = rw (stays Merged Pending fs gs (h Merged refl) refl, stays Delivered Pending fs gs (h Delivered refl) refl, stays Suppressed Pending fs gs (h Suppressed refl) refl, stays Flushed Pending fs gs (h Flushed refl) refl) refl
+counted_is Merged fs gs h = rw (grows Merged Merged fs gs (h Merged refl) refl, stays Delivered Merged fs gs (h Delivered refl) refl, stays Suppressed Merged fs gs (h Suppressed refl) refl, stays Flushed Merged fs gs (h Flushed refl) refl) refl
+counted_is Delivered fs gs h = rw (stays Merged Delivered fs gs (h Merged refl) refl, grows Delivered Delivered fs gs (h Delivered refl) refl, stays Suppressed Delivered fs gs (h Suppressed refl) refl, stays Flushed Delivered fs gs (h Flushed refl) refl) refl
+counted_is Suppressed fs gs h = rw (stays Merged Suppressed fs gs (h Merged refl) refl, stays Delivered Suppressed fs gs (h Delivered refl) refl, grows Suppressed Suppressed fs gs (h Suppressed refl) refl, stays Flushed Suppressed fs gs (h Flushed refl) refl) refl
+counted_is Flushed fs gs h = rw (stays Merged Flushed fs gs (h Merged refl) refl, stays Delivered Flushed fs gs (h Delivered refl) refl, stays Suppressed Flushed fs gs (h Suppressed refl) refl, grows Flushed Flushed fs gs (h Flushed refl) refl) refl
+
+other : (f : Fate) → same_fate f Pending ≡ false → one_of f Pending ≡ 0
+other f q = rw q refl
 
 pub counts_set : (g : Fate) (fs : List Fate) (i : ℕ) (d : Fate) → i < length fs → same_fate Pending (get_or fs i d) ≡ true → counted_under g (counts_of fs) ≡ counts_of (set fs i g)
-counts_set Pending fs i d l p = rw (stays Merged Pending fs i d l p refl refl, stays Delivered Pending fs i d l p refl refl, stays Suppressed Pending fs i d l p refl refl, stays Flushed Pending fs i d l p refl refl) refl
-counts_set Merged fs i d l p = rw (grows Merged fs i d l p refl refl, stays Delivered Merged fs i d l p refl refl, stays Suppressed Merged fs i d l p refl refl, stays Flushed Merged fs i d l p refl refl) refl
-counts_set Delivered fs i d l p = rw (stays Merged Delivered fs i d l p refl refl, grows Delivered fs i d l p refl refl, stays Suppressed Delivered fs i d l p refl refl, stays Flushed Delivered fs i d l p refl refl) refl
-counts_set Suppressed fs i d l p = rw (stays Merged Suppressed fs i d l p refl refl, stays Delivered Suppressed fs i d l p refl refl, grows Suppressed fs i d l p refl refl, stays Flushed Suppressed fs i d l p refl refl) refl
-counts_set Flushed fs i d l p = rw (stays Merged Flushed fs i d l p refl refl, stays Delivered Flushed fs i d l p refl refl, stays Suppressed Flushed fs i d l p refl refl, grows Flushed fs i d l p refl refl) refl
+counts_set g fs i d l p = counted_is g fs (set fs i g) (λ f q. omega (arith, count_set f g fs i d l p, other f q))
+
+pub counts_push : (g : Fate) (fs : List Fate) → counted_under g (counts_of fs) ≡ counts_of (fs ++ g ∷ [])
+counts_push g fs = counted_is g fs (fs ++ g ∷ []) (λ f _. omega (arith, count_append f fs (g ∷ []), count_first f g []))
 
 -- one more number can have a fate that isn't Pending
 pub one_more : (f : Fate) (fs : List Fate) (i : ℕ) (d : Fate) → one_of f Pending ≡ 0 → one_of f f ≡ 1 → i < length fs → same_fate Pending (get_or fs i d) ≡ true → count_of f fs + 1 ≤ length fs
-one_more f fs i d o n l p = omega (arith, grows f fs i d l p o n, count_few f (set fs i f), length-set fs i f)
+one_more f fs i d o n l p = omega (arith, count_set f f fs i d l p, o, n, count_few f (set fs i f), length-set fs i f)
 
 -- every number has one of the fates
 pub all_counted : (fs : List Fate) → count_of Pending fs + count_of Merged fs + count_of Delivered fs + count_of Suppressed fs + count_of Flushed fs ≡ length fs

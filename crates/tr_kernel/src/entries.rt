@@ -1,4 +1,4 @@
-ghost use Rattle.std.specs.Prelude.{◌≡◌, ◌∷◌, ◌++◌, ◌+◌, ◌≤◌, ◌<◌, ◌^◌, [], ℕ, length, IfOk, OnOk, OnErr};
+ghost use Rattle.std.specs.Prelude.{◌≡◌, ◌∷◌, ◌++◌, ◌+◌, ◌≤◌, ◌<◌, ◌^◌, [], ℕ, length, vec_len, vec_capacity, IfOk, OnOk, OnErr};
 ghost use Rattle.tr_model.specs.Compare.{Permits};
 ghost use Rattle.tr_model.specs.Steps.{after, work_of};
 ghost use Rattle.tr_kernel.specs.Laws.{report_of};
@@ -42,6 +42,37 @@ fn copied(reply: &Reply) -> Reply
     ensures { result ≡ reply.now }
 {
     *reply
+}
+
+/// Makes room for an entry, the signals that it accepts and its note, by which at most this many deaths of groups begin.
+/// Mostly there is room, and nothing is called.
+#[inline(always)]
+fn make_room(
+    journal: &mut Journal,
+    fates: &mut Fates,
+    notes: &mut Notes,
+    deaths: usize,
+) -> Result<(), AllocError>
+    ensures entries { journal.new.entries ≡ journal.old.entries }
+    ensures replies { journal.new.replies ≡ journal.old.replies }
+    ensures fates { fates.new.fates ≡ fates.old.fates }
+    ensures list { notes.new.list.notes ≡ notes.old.list.notes }
+    ensures dying { notes.new.dying.items ≡ notes.old.dying.items }
+    ensures transfers { notes.new.transfers.items ≡ notes.old.transfers.items }
+    ensures entry_room { OnOk result (0 < journal.new.room) }
+    ensures fate_room { OnOk result (1024 ≤ fates.new.room) }
+    ensures note_room { OnOk result (0 < notes.new.list.room) }
+    ensures dying_room { OnOk result
+        (vec_len notes.new.dying + deaths ≤ vec_capacity notes.new.dying) }
+    ensures transfer_room { OnOk result
+        (vec_len notes.new.transfers < vec_capacity notes.new.transfers) }
+{
+    if journal.has_room() && fates.has_room(ACCEPTED_AT_ONCE) && notes.has_room(deaths) {
+        return Ok(());
+    }
+    journal.reserve_one()?;
+    fates.reserve(ACCEPTED_AT_ONCE)?;
+    notes.reserve(deaths)
 }
 
 /// Makes the entry of an event that is due, with any choice that the model admits, and writes it down, with its reply, the
@@ -95,13 +126,10 @@ pub(crate) fn write_entry(
     ensures err_dying { OnErr result (notes.new.dying.items ≡ notes.old.dying.items) }
     ensures err_passed { OnErr result (notes.new.transfers.items ≡ notes.old.transfers.items) }
 {
-    journal.reserve_one()?;
-    fates.reserve(ACCEPTED_AT_ONCE)?;
-    notes.reserve(deaths_at_once(step.table()))?;
+    make_room(journal, fates, notes, deaths_at_once(step.table()))?;
     let fact = fact_before(step.table(), actor, event, choice);
     let reply = change(step, alloc, actor, event, choice)?;
-    fates.accept(step.table().accepted() as usize - fates.len());
-    fates.write_all(step.ended());
+    fates.enter(step.table().accepted() as usize - fates.len(), step.ended());
     notes.note(fact, step, &reply);
     let entry = Entry {
         actor,

@@ -1,4 +1,4 @@
-ghost use Rattle.std.specs.Prelude.{◌≡◌, ◌++◌, ◌+◌, ◌≤◌, ◌<◌, ◌-◌, ◌∷◌, [], None, OnErr, OnOk, length, replicate, slice_get, vec_len, vec_capacity};
+ghost use Rattle.std.specs.Prelude.{◌≡◌, ◌↔◌, ◌++◌, ◌+◌, ◌≤◌, ◌<◌, ◌-◌, ◌∷◌, [], IsTrue, None, OnErr, OnOk, length, replicate, slice_get, vec_len, vec_capacity};
 ghost use Rattle.tr_model.specs.declared.fates.Fate.TheVariants.{Pending};
 ghost use Rattle.tr_model.specs.Journals.{same_fate};
 ghost use Rattle.tr_kernel.specs.Private.{counted_under, ending_noted, endings_noted, tally};
@@ -81,11 +81,20 @@ impl Fates {
     }
 
     /// Makes room for so many more numbers.
+    #[inline(never)]
     pub(crate) fn reserve(&mut self, more: usize) -> Result<(), AllocError>
         ensures fates { self.new.fates ≡ self.old.fates }
         ensures room { OnOk result (more ≤ self.new.room) }
     {
         self.list.reserve(more)
+    }
+
+    /// Whether there is room for so many more numbers.
+    #[inline(always)]
+    pub(crate) fn has_room(&self, more: usize) -> bool
+        ensures { IsTrue result ↔ more ≤ self.now.room }
+    {
+        self.list.capacity() - self.list.len() >= more
     }
 
     /// How many numbers were accepted.
@@ -122,7 +131,7 @@ impl Fates {
 
     /// Appends this many accepted numbers, whose fate is open.
     #[inline(always)]
-    pub(crate) fn accept(&mut self, more: usize)
+    fn accept(&mut self, more: usize)
         requires { more ≤ self.old.room }
         ensures fates { self.new.fates ≡ self.old.fates ++ replicate more Pending }
         ensures room { self.old.room ≤ self.new.room + more }
@@ -130,9 +139,27 @@ impl Fates {
         append_pending(&mut self.list, more);
     }
 
+    /// Appends this many accepted numbers, and writes down what ended. Most entries accept one signal or none, and one that
+    /// ends at once gets its fate at once.
+    #[inline(always)]
+    pub(crate) fn enter(&mut self, more: usize, ended: &[Ending])
+        requires { more ≤ self.old.room }
+        ensures { self.new.fates ≡ endings_noted ended.now (self.old.fates ++ replicate more Pending) }
+    {
+        if let (1, [ending]) = (more, ended) {
+            if ending.number == self.list.len() as u64 + 1 {
+                self.list.push_reserved(ending.fate);
+                self.counts.add(ending.fate);
+                return;
+            }
+        }
+        self.accept(more);
+        self.write_all(ended);
+    }
+
     /// Writes down what ended.
     #[inline(always)]
-    pub(crate) fn write_all(&mut self, ended: &[Ending])
+    fn write_all(&mut self, ended: &[Ending])
         ensures { self.new.fates ≡ endings_noted ended.now self.old.fates }
     {
         for ending in ended {

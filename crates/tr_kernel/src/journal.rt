@@ -1,4 +1,4 @@
-ghost use Rattle.std.specs.Prelude.{◌≡◌, ◌++◌, ◌+◌, ◌-◌, ◌<◌, ◌≤◌, ◌∷◌, [], None, OnErr, OnOk, length, nat_le, slice_get, slice_index_or};
+ghost use Rattle.std.specs.Prelude.{◌≡◌, ◌↔◌, ◌++◌, ◌+◌, ◌-◌, ◌<◌, ◌≤◌, ◌∷◌, [], IsTrue, None, OnErr, OnOk, length, nat_le, slice_get, slice_index_or};
 ghost use Rattle.tr_kernel.specs.Kept.{IsToldBy};
 
 use crate::lists::{append, at_position};
@@ -49,6 +49,7 @@ impl Journal {
     }
 
     /// Makes room for one more entry.
+    #[inline(never)]
     pub(crate) fn reserve_one(&mut self) -> Result<(), AllocError>
         ensures entries { self.new.entries ≡ self.old.entries }
         ensures replies { self.new.replies ≡ self.old.replies }
@@ -56,6 +57,14 @@ impl Journal {
     {
         self.entries.reserve(1)?;
         self.replies.reserve(1)
+    }
+
+    /// Whether there is room for one more entry.
+    #[inline(always)]
+    pub(crate) fn has_room(&self) -> bool
+        ensures { IsTrue result ↔ 0 < self.now.room }
+    {
+        self.entries.len() < self.entries.capacity() && self.replies.len() < self.replies.capacity()
     }
 
     pub(crate) fn entries(&self) -> &[Entry]

@@ -1,5 +1,5 @@
 ghost use Rattle.std.specs.Prelude.{◌≡◌, ◌↔◌, ◌++◌, ◌+◌, ◌-◌, ◌<◌, ◌≤◌, ◌∷◌, ◌^◌, [], IsTrue, None, OnErr, OnOk, false, length, nat_le, slice_get, true};
-ghost use Rattle.tr_kernel.specs.Kept.{AreWithin, IsUpto, blank, deaths_of, fact_of, is_blank, note_upto, noted};
+ghost use Rattle.tr_kernel.specs.Kept.{AreWithin, IsUpto, blank, fact_of, is_blank, note_upto, noted};
 
 use crate::notes::{EntryFact, Note, Stopped, TakenFrom};
 use crate::replies::signal_of;
@@ -35,11 +35,13 @@ pub(crate) struct KeptNote {
 pub(crate) struct NoteList {
     kept: Vec<KeptNote>,
     len: usize,
+    /// How many deaths had begun after the last note that is kept.
+    deaths: u64,
 }
 
 impl Model for NoteList {
-    ghost use Rattle.std.specs.Prelude.{◌-◌, vec_capacity, vec_len};
-    ghost use Rattle.tr_kernel.specs.Kept.{AreWithin, NotesOfEntries, spread};
+    ghost use Rattle.std.specs.Prelude.{◌≡◌, ◌-◌, vec_capacity, vec_len};
+    ghost use Rattle.tr_kernel.specs.Kept.{AreWithin, NotesOfEntries, deaths_of, spread};
 
     ghost Value = { NotesOfEntries };
 
@@ -48,7 +50,7 @@ impl Model for NoteList {
       room = vec_capacity l.kept - vec_len l.kept;
     } };
 
-    ghost invariant = { λ l. AreWithin 0 l.len l.kept.items };
+    ghost invariant = { λ l. AreWithin 0 l.len l.kept.items × (l.deaths ≡ deaths_of 0 l.kept.items) };
 }
 
 fn kept_fact(fact: EntryFact) -> KeptFact
@@ -131,17 +133,6 @@ fn is_blank(note: &Note, deaths: u64) -> bool
     matches!(note.fact, EntryFact::Nothing) && !note.killed && note.deaths == deaths
 }
 
-/// How many deaths had begun after the last of these notes.
-#[inline(always)]
-fn deaths_of(kept: &[KeptNote]) -> u64
-    ensures { result ≡ deaths_of 0 kept.now }
-{
-    match kept.last() {
-        Some(last) => last.deaths,
-        None => 0,
-    }
-}
-
 /// How many of these are of entries up to this place.
 fn count_upto(kept: &[KeptNote], len: usize, place: usize) -> usize
     requires { AreWithin 0 len kept.now }
@@ -172,6 +163,7 @@ impl NoteList {
         NoteList {
             kept: Vec::new(alloc),
             len: 0,
+            deaths: 0,
         }
     }
 
@@ -199,7 +191,7 @@ impl NoteList {
         ensures pushed { result ≡ true → self.new.notes ≡ self.old.notes ++ blank deaths ∷ [] }
         ensures unchanged { result ≡ false → self.new ≡ self.old }
     {
-        if deaths_of(&self.kept) != deaths {
+        if self.deaths != deaths {
             return false;
         }
         self.len += 1;
@@ -212,9 +204,10 @@ impl NoteList {
         requires few { length self.old.notes < 2 ^ 32 }
         ensures { self.new.notes ≡ self.old.notes ++ note.now ∷ [] }
     {
-        if !is_blank(note, deaths_of(&self.kept)) {
+        if !is_blank(note, self.deaths) {
             self.kept
                 .push_reserved(KeptNote::new(self.len as u32, note));
+            self.deaths = note.deaths;
         }
         self.len += 1;
     }

@@ -281,39 +281,8 @@ impl Notes {
 
     /// Makes room for the note of one entry, by which at most this many deaths of groups begin. Where memory is refused
     /// the notes are as before.
-    #[inline(always)]
-    pub(crate) fn reserve(&mut self, deaths: usize) -> Result<(), AllocError>
-        ensures list { self.new.list.notes ≡ self.old.list.notes }
-        ensures dying { self.new.dying.items ≡ self.old.dying.items }
-        ensures transfers { self.new.transfers.items ≡ self.old.transfers.items }
-        ensures note_room { OnOk result (0 < self.new.list.room) }
-        ensures dying_room { OnOk result
-            (vec_len self.new.dying + deaths ≤ vec_capacity self.new.dying) }
-        ensures transfer_room { OnOk result
-            (vec_len self.new.transfers < vec_capacity self.new.transfers) }
-    {
-        if self.has_room(deaths) {
-            return Ok(());
-        }
-        self.grow(deaths)
-    }
-
-    /// Whether there are places for the note of one entry, by which so many deaths of groups begin.
-    #[inline(always)]
-    fn has_room(&self, deaths: usize) -> bool
-        ensures { IsTrue result
-            ↔ (0 < self.now.list.room)
-            × (vec_len self.now.dying + deaths ≤ vec_capacity self.now.dying)
-            × (vec_len self.now.transfers < vec_capacity self.now.transfers) }
-    {
-        self.list.has_room()
-            && self.dying.capacity() - self.dying.len() >= deaths
-            && self.transfers.len() < self.transfers.capacity()
-    }
-
-    /// Makes these places where some lack.
     #[inline(never)]
-    fn grow(&mut self, deaths: usize) -> Result<(), AllocError>
+    pub(crate) fn reserve(&mut self, deaths: usize) -> Result<(), AllocError>
         ensures list { self.new.list.notes ≡ self.old.list.notes }
         ensures dying { self.new.dying.items ≡ self.old.dying.items }
         ensures transfers { self.new.transfers.items ≡ self.old.transfers.items }
@@ -326,6 +295,19 @@ impl Notes {
         self.list.reserve_one()?;
         self.dying.reserve(deaths)?;
         self.transfers.reserve(1)
+    }
+
+    /// Whether there are places for the note of one entry, by which so many deaths of groups begin.
+    #[inline(always)]
+    pub(crate) fn has_room(&self, deaths: usize) -> bool
+        ensures { IsTrue result
+            ↔ (0 < self.now.list.room)
+            × (vec_len self.now.dying + deaths ≤ vec_capacity self.now.dying)
+            × (vec_len self.now.transfers < vec_capacity self.now.transfers) }
+    {
+        self.list.has_room()
+            && self.dying.capacity() - self.dying.len() >= deaths
+            && self.transfers.len() < self.transfers.capacity()
     }
 
     /// Notes an entry, for which there is room: what it was before the step, and what the step made.

@@ -10,5 +10,5 @@ pub returns : goal.returns
 returns c =
     let ks = c.self.inside.kept.items in
     let m = c.count_upto-upto.result in
-    let at = spread_at ks 0 0 c.self.inside.len c.args.place m (subst (λ n. AreWithin 0 n ks) (omega arith) c.self.invariant) (omega (arith, c.if-place-self.false)) (subst (λ p. IsUpto p ks m) (omega arith) (subst (λ l. IsUpto c.args.place l m) c.deref.ensures.value c.count_upto-upto.ensures)) in
+    let at = spread_at ks 0 0 c.self.inside.len c.args.place m (subst (λ n. AreWithin 0 n ks) (omega arith) c.self.invariant.0) (omega (arith, c.if-place-self.false)) (subst (λ p. IsUpto p ks m) (omega arith) (subst (λ l. IsUpto c.args.place l m) c.deref.ensures.value c.count_upto-upto.ensures)) in
     rw (← c.self.view_is) (sym (at ∙ (ap (λ p. Some (note_upto 0 p (take m ks))) (omega arith) ∙ ap (λ n. Some n) (ap (λ l. note_upto 0 c.args.place (take m l)) (sym c.deref-2.ensures.value) ∙ sym c.note_upto.ensures))))

@@ -1,6 +1,6 @@
 use Rattle.std.proofs.Common.{◌≡◌, suc, ◌+◌, ◌<◌, ◌^◌, ◌++◌, ◌∷◌, [], ◌∙◌, ap, sym, subst, arith, length}
 use Rattle.tr_kernel.specs.Kept.{AreWithin, NotesOfEntries, blank, deaths_of, is_blank, spread}
-use Rattle.tr_kernel.proofs.Spread.{blank_is, length_spread, spread_blank, spread_kept, within_more, within_push}
+use Rattle.tr_kernel.proofs.Spread.{blank_is, deaths_push, length_spread, spread_blank, spread_kept, within_more, within_push}
 use Rattle.tr_kernel.proofs.note_list.NoteList.push.Goals as goal
 use Rattle.tr_kernel.proofs.note_list.NoteList.push.Goals.{then-not-is_blank, else-not-is_blank}
 
@@ -26,8 +26,8 @@ invariant_of-self c =
     elim c.if-not-is_blank.branch [
       | then-not-is_blank w ↦
           let up : suc n ≡ n + 1 = omega arith in
-          rw (w.self-inside-is, w.push_reserved.ensures.items) (subst (λ m. AreWithin 0 m (ks ++ w.new.result ∷ [])) up (within_push 0 n ks w.new.result w.new.ensures.place (omega arith) c.self.invariant))
-      | else-not-is_blank w ↦ rw (w.self-inside-is) (subst (λ m. AreWithin 0 m ks) (omega arith) (within_more 0 n ks c.self.invariant))
+          rw (w.self-inside-is, w.push_reserved.ensures.items) (subst (λ m. AreWithin 0 m (ks ++ w.new.result ∷ [])) up (within_push 0 n ks w.new.result w.new.ensures.place (omega arith) c.self.invariant.0), sym (ap (λ x. x.deaths) w.new.ensures.note) ∙ deaths_push 0 ks w.new.result)
+      | else-not-is_blank w ↦ rw (w.self-inside-is) (subst (λ m. AreWithin 0 m ks) (omega arith) (within_more 0 n ks c.self.invariant.0), c.self.invariant.1)
     ]
 
 pub returns : goal.returns
@@ -37,9 +37,9 @@ returns c =
     elim c.if-not-is_blank.branch [
       | then-not-is_blank w ↦
           let up : n + 1 ≡ suc n = omega arith in
-          rw (w.self-inside-is, w.push_reserved.ensures.items, ← c.self.view_is) (ap (spread (ks ++ w.new.result ∷ []) 0 0) up ∙ spread_kept ks w.new.result 0 0 n (subst (λ m. AreWithin 0 m ks) (omega arith) c.self.invariant) (w.new.ensures.place ∙ omega arith) ∙ ap (λ m. spread ks 0 0 n ++ m ∷ []) w.new.ensures.note)
+          rw (w.self-inside-is, w.push_reserved.ensures.items, ← c.self.view_is) (ap (spread (ks ++ w.new.result ∷ []) 0 0) up ∙ spread_kept ks w.new.result 0 0 n (subst (λ m. AreWithin 0 m ks) (omega arith) c.self.invariant.0) (w.new.ensures.place ∙ omega arith) ∙ ap (λ m. spread ks 0 0 n ++ m ∷ []) w.new.ensures.note)
       | else-not-is_blank w ↦
-          let is : blank (deaths_of 0 ks) ≡ c.args.note.now = blank_is (deaths_of 0 ks) c.args.note.now (ap (λ d. is_blank d c.args.note.now) (ap (deaths_of 0) (sym c.deref.ensures.value) ∙ sym c.deaths_of.ensures) ∙ (sym c.is_blank.ensures ∙ w.if-not-is_blank.false)) in
+          let is : blank (deaths_of 0 ks) ≡ c.args.note.now = blank_is (deaths_of 0 ks) c.args.note.now (ap (λ d. is_blank d c.args.note.now) (sym c.self.invariant.1) ∙ (sym c.is_blank.ensures ∙ w.if-not-is_blank.false)) in
           let up : n + 1 ≡ suc n = omega arith in
-          rw (w.self-inside-is, ← c.self.view_is) (ap (spread ks 0 0) up ∙ (spread_blank ks 0 0 n (subst (λ m. AreWithin 0 m ks) (omega arith) c.self.invariant) ∙ ap (λ x. spread ks 0 0 n ++ x ∷ []) is))
+          rw (w.self-inside-is, ← c.self.view_is) (ap (spread ks 0 0) up ∙ (spread_blank ks 0 0 n (subst (λ m. AreWithin 0 m ks) (omega arith) c.self.invariant.0) ∙ ap (λ x. spread ks 0 0 n ++ x ∷ []) is))
     ]

@@ -12,13 +12,13 @@ overflow_add-self c =
 pub invariant_of-self : goal.invariant_of-self
 invariant_of-self c =
     let ks = c.self.inside.kept.items in
-    subst (λ m. AreWithin 0 m ks) (omega arith) (within_more 0 c.self.inside.len ks c.self.invariant)
+    (subst (λ m. AreWithin 0 m ks) (omega arith) (within_more 0 c.self.inside.len ks c.self.invariant.0), c.self.invariant.1)
 
 pub returns-clause-pushed : goal.returns-clause-pushed
 returns-clause-pushed c _ =
     let ks = c.self.inside.kept.items in
     let n = c.self.inside.len in
-    let same : c.deaths_of.result ≡ c.args.deaths = omega (arith, c.if-deaths_of-deaths.false) in
-    let is : deaths_of 0 ks ≡ c.args.deaths = ap (deaths_of 0) (sym c.deref.ensures.value) ∙ (sym c.deaths_of.ensures ∙ same) in
+    let same : c.self.inside.deaths ≡ c.args.deaths = omega (arith, c.if-self-deaths.false) in
+    let is : deaths_of 0 ks ≡ c.args.deaths = sym c.self.invariant.1 ∙ same in
     let up : n + 1 ≡ suc n = omega arith in
-    rw (← c.self.view_is) (ap (spread ks 0 0) up ∙ (spread_blank ks 0 0 n (subst (λ m. AreWithin 0 m ks) (omega arith) c.self.invariant) ∙ ap (λ d. spread ks 0 0 n ++ blank d ∷ []) is))
+    rw (← c.self.view_is) (ap (spread ks 0 0) up ∙ (spread_blank ks 0 0 n (subst (λ m. AreWithin 0 m ks) (omega arith) c.self.invariant.0) ∙ ap (λ d. spread ks 0 0 n ++ blank d ∷ []) is))
