@@ -2,10 +2,11 @@
 
 ghost use Rattle.std.specs.Prelude.{◌≡◌, if◌then◌else◌};
 ghost use Rattle.tr_model.specs.Foreseen.{fate_of_put, fate_of_send, fate_unless_ignored};
-ghost use Rattle.tr_model.specs.Tables.{all_dead, owner};
+ghost use Rattle.tr_model.specs.Tables.{action_of, all_dead, owner};
 ghost use Rattle.tr_model.specs.declared.fates.Fate.TheVariants.{Delivered, Flushed};
 
 use crate::steps::Step;
+use tr_group::Action;
 use tr_model::{Fate, Target};
 use tr_sigset::Signal;
 
@@ -33,10 +34,11 @@ impl Step {
         }
     }
 
-    fn fate_unless_ignored(&self, signal: Signal, target: Target) -> Fate
+    fn fate_unless_ignored(&self, signal: Signal, target: Target, action: Action) -> Fate
+        requires { action ≡ action_of self.now.work.table (owner self.now.work.table target) signal }
         ensures { result ≡ fate_unless_ignored self.now.work.table signal target }
     {
-        if self.is_ignored(signal, target) {
+        if self.is_ignored(signal, target, action) {
             Fate::Flushed
         } else {
             self.fate_of_put(signal, target)
@@ -49,8 +51,8 @@ impl Step {
     {
         if signal == Signal::KILL {
             self.fate_of_kill(target)
-        } else if self.is_reachable(target) {
-            self.fate_unless_ignored(signal, target)
+        } else if let Some(action) = self.reachable_action(signal, target) {
+            self.fate_unless_ignored(signal, target, action)
         } else {
             Fate::Flushed
         }

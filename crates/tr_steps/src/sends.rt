@@ -1,12 +1,13 @@
 //! What becomes of an accepted signal: kill(2), tgkill(2), sigqueue(3) and signal(7), by six rules in their order.
 
-ghost use Rattle.std.specs.Prelude.{◌≡◌, ◌≤◌};
+ghost use Rattle.std.specs.Prelude.{◌≡◌, ◌≤◌, IfSome, is_some};
 ghost use Rattle.tr_pending.specs.Waiting.{merges};
 ghost use Rattle.tr_model.specs.Sends.{before_send, continue_by_signal, is_ignored, is_open, is_reachable, put, put_unless_ignored, send, send_kill, send_other};
-ghost use Rattle.tr_model.specs.Tables.{owner, queue};
+ghost use Rattle.tr_model.specs.Tables.{action_of, owner, queue};
 ghost use Rattle.tr_steps.specs.UnderWay.{Moves};
 
 use crate::steps::Step;
+use tr_group::Action;
 use tr_model::{Fate, Target};
 use tr_pending::Info;
 use tr_sigset::Signal;
@@ -30,16 +31,26 @@ impl Step {
 
     // Second: in a dying group, or at what isn't live, it is flushed.
 
+    /// The action of a signal, where it can reach anybody.
     #[inline(always)]
-    pub(crate) fn is_reachable(&self, target: Target) -> bool
-        ensures { result ≡ is_reachable self.now.work.table target }
+    pub(crate) fn reachable_action(&self, signal: Signal, target: Target) -> Option<Action>
+        ensures reachable { is_some result ≡ is_reachable self.now.work.table target }
+        ensures action { IfSome result
+            (λ a. a ≡ action_of self.now.work.table (owner self.now.work.table target) signal) }
     {
         let table = self.table();
         let is_live = match target {
             Target::Thread(id) => table.find(id).is_some_and(|t| t.life.is_live()),
             Target::Group(tgid) => table.has_live(tgid),
         };
-        is_live && table.end_of(table.owner(target)).is_none()
+        if !is_live {
+            return None;
+        }
+        match table.group(table.owner(target)) {
+            Some(group) if group.end.is_some() => None,
+            Some(group) => Some(group.actions[usize::from(signal.number() - 1)]),
+            None => Some(Action::Default),
+        }
     }
 
     // Third: a stop signal flushes SIGCONT; SIGCONT flushes stop signals and continues the group.
@@ -83,10 +94,10 @@ impl Step {
     }
 
     #[inline(always)]
-    pub(crate) fn is_ignored(&self, signal: Signal, target: Target) -> bool
+    pub(crate) fn is_ignored(&self, signal: Signal, target: Target, action: Action) -> bool
+        requires { action ≡ action_of self.now.work.table (owner self.now.work.table target) signal }
         ensures { result ≡ is_ignored self.now.work.table signal target }
     {
-        let action = self.table().action_of(self.table().owner(target), signal);
         action.ignores(signal) && self.is_open(signal, target)
     }
 
@@ -113,11 +124,13 @@ impl Step {
     }
 
     #[inline(always)]
-    fn put_unless_ignored(&mut self, signal: Signal, info: &Info, target: Target)
-        requires { 1 ≤ self.old.room }
+    fn put_unless_ignored(&mut self, signal: Signal, info: &Info, target: Target, action: Action)
+        requires room { 1 ≤ self.old.room }
+        requires action { action
+            ≡ action_of self.old.work.table (owner self.old.work.table target) signal }
         ensures { Moves (put_unless_ignored signal info.now target) 1 self.old self.new }
     {
-        if self.is_ignored(signal, target) {
+        if self.is_ignored(signal, target, action) {
             self.accept_as(Fate::Flushed);
         } else {
             self.put(signal, info, target);
@@ -134,7 +147,8 @@ impl Step {
     {
         let tgid = self.table().owner(target);
         self.before_send(signal, tgid);
-        self.put_unless_ignored(signal, info, target);
+        let action = self.table().action_of(self.table().owner(target), signal);
+        self.put_unless_ignored(signal, info, target, action);
     }
 
     #[inline(always)]
@@ -142,12 +156,14 @@ impl Step {
         requires { 2 ≤ self.old.room }
         ensures { Moves (send_other signal info.now target) 2 self.old self.new }
     {
-        if !self.is_reachable(target) {
+        let Some(action) = self.reachable_action(signal, target) else {
             self.accept_as(Fate::Flushed);
-        } else if signal.is_stop() || signal == Signal::CONT {
+            return;
+        };
+        if signal.is_stop() || signal == Signal::CONT {
             self.send_job_control(signal, info, target);
         } else {
-            self.put_unless_ignored(signal, info, target);
+            self.put_unless_ignored(signal, info, target, action);
         }
     }
 
