@@ -25,7 +25,9 @@ use Rattle.tr_model.specs.Waits.{ready_thread}
 use Rattle.tr_steps.specs.UnderWay.{UnderWay}
 use Rattle.tr_kernel.specs.declared.fates.EndedCounts.{EndedCounts}
 use Rattle.tr_kernel.specs.declared.notes.EntryFact.{EntryFact}
-use Rattle.tr_kernel.specs.declared.notes.EntryFact.TheVariants.{Nothing, Take, Exec}
+use Rattle.tr_kernel.specs.declared.notes.EntryFact.TheVariants.{Nothing, Stop, Take, Exec}
+use Rattle.tr_kernel.specs.declared.notes.FactBefore.{FactBefore}
+use Rattle.tr_kernel.specs.declared.notes.FactBefore.TheVariants as before
 use Rattle.tr_kernel.specs.declared.notes.Note.{Note}
 use Rattle.tr_kernel.specs.declared.notes.IdTransfer.{IdTransfer}
 use Rattle.tr_kernel.specs.declared.notes.Stopped.{Stopped}
@@ -119,6 +121,12 @@ abbrev pub fact_before : Table → ℕ → Event → Choice → EntryFact
 fact_before T a (event.Wait which) c = stop_fact (ready_thread T a which (number c.report))
 fact_before T a (event.Exec id) c = exec_fact (thread_of T id)
 fact_before T a _ c = Nothing
+
+-- what this says of an entry
+abbrev pub shown : FactBefore → EntryFact
+shown before.Nothing = Nothing
+shown (before.Stop s) = Stop s
+shown (before.Exec g) = Exec g
 
 -- its fact after the step, by the queue that it took from and its reply
 abbrev pub fact_after : EntryFact → Option Target → List IdTransfer → Reply → EntryFact

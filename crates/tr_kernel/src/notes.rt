@@ -1,6 +1,6 @@
 ghost use Rattle.std.specs.Prelude.{◌≡◌, ◌↔◌, ◌≤◌, ◌<◌, ◌+◌, ◌++◌, ◌∷◌, ◌^◌, [], ℕ, IsTrue, false, length, not, option_copied, slice_get, vec_len, vec_capacity, OnOk};
 ghost use Rattle.tr_kernel.specs.Notes.{exec_fact, is_some_group, is_stop_status, shows_stop, stop_fact, times};
-ghost use Rattle.tr_kernel.specs.Private.{AreTransferred, IsPlain, killed_in, fact_after, fact_before, fact_in, note_with, transfers_in};
+ghost use Rattle.tr_kernel.specs.Private.{AreTransferred, IsPlain, killed_in, fact_after, fact_before, fact_in, note_with, shown, transfers_in};
 
 use crate::lists::append;
 use crate::note_list::NoteList;
@@ -40,6 +40,26 @@ pub(crate) enum EntryFact {
     Take(TakenFrom),
     /// An execve(2) by a thread of this group.
     Exec(u32),
+}
+
+/// What an entry is to the laws, as far as the table before it shows: what a take takes shows after.
+#[derive(Clone, Copy)]
+pub(crate) enum FactBefore {
+    Nothing,
+    Stop(Stopped),
+    Exec(u32),
+}
+
+impl FactBefore {
+    fn fact(self) -> EntryFact
+        ensures { result ≡ shown self }
+    {
+        match self {
+            FactBefore::Nothing => EntryFact::Nothing,
+            FactBefore::Stop(stopped) => EntryFact::Stop(stopped),
+            FactBefore::Exec(group) => EntryFact::Exec(group),
+        }
+    }
 }
 
 /// What an entry leaves.
@@ -98,37 +118,37 @@ fn shows_stop(report: &Option<Report>) -> bool
     }
 }
 
-fn stop_fact(thread: Option<&Thread>) -> EntryFact
-    ensures { result ≡ stop_fact (option_copied thread.entry) }
+fn stop_fact(thread: Option<&Thread>) -> FactBefore
+    ensures { shown result ≡ stop_fact (option_copied thread.entry) }
 {
     match thread {
         Some(thread) => {
             if shows_stop(&thread.report) {
-                EntryFact::Stop(Stopped {
+                FactBefore::Stop(Stopped {
                     thread: thread.id,
                     group: thread.group,
                 })
             } else {
-                EntryFact::Nothing
+                FactBefore::Nothing
             }
         }
-        None => EntryFact::Nothing,
+        None => FactBefore::Nothing,
     }
 }
 
-fn exec_fact(thread: Option<&Thread>) -> EntryFact
-    ensures { result ≡ exec_fact (option_copied thread.entry) }
+fn exec_fact(thread: Option<&Thread>) -> FactBefore
+    ensures { shown result ≡ exec_fact (option_copied thread.entry) }
 {
     match thread {
-        Some(thread) => EntryFact::Exec(thread.group),
-        None => EntryFact::Nothing,
+        Some(thread) => FactBefore::Exec(thread.group),
+        None => FactBefore::Nothing,
     }
 }
 
 /// What an entry is to the laws, as far as the table before it shows.
 #[inline(always)]
-pub(crate) fn fact_before(table: &Table, actor: u32, event: &Event, choice: Choice) -> EntryFact
-    ensures { result ≡ fact_before table.now.table actor event.now choice }
+pub(crate) fn fact_before(table: &Table, actor: u32, event: &Event, choice: Choice) -> FactBefore
+    ensures { shown result ≡ fact_before table.now.table actor event.now choice }
 {
     match event {
         Event::Wait { which } => stop_fact(ready_thread(
@@ -138,7 +158,7 @@ pub(crate) fn fact_before(table: &Table, actor: u32, event: &Event, choice: Choi
             choice.report().unwrap_or(0),
         )),
         Event::Exec { tid } => exec_fact(table.find(*tid)),
-        _ => EntryFact::Nothing,
+        _ => FactBefore::Nothing,
     }
 }
 
@@ -195,9 +215,9 @@ fn count_first_transfer(transfers: &mut Vec<IdTransfer>, ids: &[u32])
 
 // What the step shows
 
-fn took_fact(fact: EntryFact, queue: Target, transfers: &[IdTransfer], reply: &Reply) -> EntryFact
+fn took_fact(fact: FactBefore, queue: Target, transfers: &[IdTransfer], reply: &Reply) -> EntryFact
     requires few { (n : ℕ) → times n transfers.now < 2 ^ 32 }
-    ensures { result ≡ fact_after fact (Some queue) transfers.now reply.now }
+    ensures { result ≡ fact_after (shown fact) (Some queue) transfers.now reply.now }
 {
     match reply {
         Reply::Took { inst, .. } => EntryFact::Take(TakenFrom {
@@ -206,22 +226,22 @@ fn took_fact(fact: EntryFact, queue: Target, transfers: &[IdTransfer], reply: &R
             queue,
             transfers: transfers_in(transfers, queue),
         }),
-        _ => fact,
+        _ => fact.fact(),
     }
 }
 
 fn fact_after(
-    fact: EntryFact,
+    fact: FactBefore,
     reply: &Reply,
     queue: Option<Target>,
     transfers: &[IdTransfer],
 ) -> EntryFact
     requires few { (n : ℕ) → times n transfers.now < 2 ^ 32 }
-    ensures { result ≡ fact_after fact queue transfers.now reply.now }
+    ensures { result ≡ fact_after (shown fact) queue transfers.now reply.now }
 {
     match queue {
         Some(queue) => took_fact(fact, queue, transfers, reply),
-        None => fact,
+        None => fact.fact(),
     }
 }
 
@@ -312,7 +332,7 @@ impl Notes {
 
     /// Notes an entry, for which there is room: what it was before the step, and what the step made.
     #[inline(always)]
-    pub(crate) fn note(&mut self, fact: EntryFact, step: &Step, reply: &Reply)
+    pub(crate) fn note(&mut self, fact: FactBefore, step: &Step, reply: &Reply)
         requires list { (0 < self.old.list.room) × (length self.old.list.notes < 2 ^ 32) }
         requires dying { vec_len self.old.dying + length step.now.work.dying
             ≤ vec_capacity self.old.dying }
@@ -321,13 +341,13 @@ impl Notes {
         requires one { length step.now.work.renamed ≤ 1 }
         ensures list { self.new.list.notes
             ≡ self.old.list.notes
-            ++ note_with (fact_after fact step.now.taken_from self.old.transfers.items reply.now)
+            ++ note_with (fact_after (shown fact) step.now.taken_from self.old.transfers.items reply.now)
             (length self.old.dying.items) step.now.work ∷ [] }
         ensures dying { self.new.dying.items ≡ self.old.dying.items ++ step.now.work.dying }
         ensures transfers { AreTransferred step.now.work.renamed
             self.old.transfers.items self.new.transfers.items }
     {
-        if matches!(fact, EntryFact::Nothing)
+        if matches!(fact, FactBefore::Nothing)
             && is_plain(step)
             && self.list.push_blank(self.dying.len() as u64)
         {
@@ -338,7 +358,7 @@ impl Notes {
 
     /// Notes an entry that may be something to the laws.
     #[inline(never)]
-    fn note_made(&mut self, fact: EntryFact, step: &Step, reply: Reply)
+    fn note_made(&mut self, fact: FactBefore, step: &Step, reply: Reply)
         requires list { (0 < self.old.list.room) × (length self.old.list.notes < 2 ^ 32) }
         requires dying { vec_len self.old.dying + length step.now.work.dying
             ≤ vec_capacity self.old.dying }
@@ -347,7 +367,7 @@ impl Notes {
         requires one { length step.now.work.renamed ≤ 1 }
         ensures list { self.new.list.notes
             ≡ self.old.list.notes
-            ++ note_with (fact_after fact step.now.taken_from self.old.transfers.items reply)
+            ++ note_with (fact_after (shown fact) step.now.taken_from self.old.transfers.items reply)
             (length self.old.dying.items) step.now.work ∷ [] }
         ensures dying { self.new.dying.items ≡ self.old.dying.items ++ step.now.work.dying }
         ensures transfers { AreTransferred step.now.work.renamed
