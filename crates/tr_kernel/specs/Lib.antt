@@ -4,6 +4,7 @@ pub mod Fates
 pub mod Foreseen
 pub mod Heard
 pub mod Kept
+pub mod KeptNotes
 pub mod Laws
 pub mod Logs
 pub mod Notes

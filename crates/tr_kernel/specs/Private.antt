@@ -22,7 +22,6 @@ use Rattle.tr_model.specs.StarterWaits.{ready_death, ready_note}
 use Rattle.tr_model.specs.Steps.{after, is_new, number, takes, took_reply, waited_thread, work_of}
 use Rattle.tr_model.specs.Tables.{Table, thread_of}
 use Rattle.tr_model.specs.Waits.{ready_thread}
-use Rattle.tr_steps.specs.UnderWay.{UnderWay}
 use Rattle.tr_kernel.specs.declared.fates.EndedCounts.{EndedCounts}
 use Rattle.tr_kernel.specs.declared.notes.EntryFact.{EntryFact}
 use Rattle.tr_kernel.specs.declared.notes.EntryFact.TheVariants.{Nothing, Stop, Take, Exec}
@@ -133,14 +132,6 @@ abbrev pub fact_after : EntryFact → Option Target → List IdTransfer → Repl
 fact_after m None ps r = m
 fact_after m (Some q) ps (reply.Took did id i) = Take (record { number = i.n; signal = i.sig; queue = q; transfers = transfers_in ps q })
 fact_after m (Some q) ps _ = m
-
--- a step that did nothing that a note would tell: it took from no queue, no death of a group began, nobody was killed, and
--- no id passed on
-pub record IsPlain (u : UnderWay) : Type 0 where
-  pub taken_from : u.taken_from ≡ None
-  pub dying : u.work.dying ≡ []
-  pub killed : u.work.killed ≡ []
-  pub renamed : u.work.renamed ≡ []
 
 -- the note of an entry that did this work, after so many deaths of groups
 abbrev pub note_with : EntryFact → ℕ → Work → Note

@@ -1,4 +1,4 @@
-ghost use Rattle.std.specs.Prelude.{◌≡◌, ◌∷◌, ◌++◌, ◌+◌, ◌≤◌, ◌<◌, ◌^◌, [], ℕ, length, vec_len, vec_capacity, IfOk, OnOk, OnErr};
+ghost use Rattle.std.specs.Prelude.{◌≡◌, ◌∷◌, ◌++◌, ◌+◌, ◌≤◌, ◌<◌, ◌^◌, [], ℕ, length, IfOk, OnOk, OnErr};
 ghost use Rattle.tr_model.specs.Compare.{Permits};
 ghost use Rattle.tr_model.specs.Steps.{after, work_of};
 ghost use Rattle.tr_kernel.specs.Laws.{report_of};
@@ -56,16 +56,12 @@ fn make_room(
     ensures entries { journal.new.entries ≡ journal.old.entries }
     ensures replies { journal.new.replies ≡ journal.old.replies }
     ensures fates { fates.new.fates ≡ fates.old.fates }
-    ensures list { notes.new.list.notes ≡ notes.old.list.notes }
-    ensures dying { notes.new.dying.items ≡ notes.old.dying.items }
-    ensures transfers { notes.new.transfers.items ≡ notes.old.transfers.items }
+    ensures notes { notes.new.notes ≡ notes.old.notes }
+    ensures dying { notes.new.dying ≡ notes.old.dying }
+    ensures transfers { notes.new.transfers ≡ notes.old.transfers }
     ensures entry_room { OnOk result (0 < journal.new.room) }
     ensures fate_room { OnOk result (1024 ≤ fates.new.room) }
-    ensures note_room { OnOk result (0 < notes.new.list.room) }
-    ensures dying_room { OnOk result
-        (vec_len notes.new.dying + deaths ≤ vec_capacity notes.new.dying) }
-    ensures transfer_room { OnOk result
-        (vec_len notes.new.transfers < vec_capacity notes.new.transfers) }
+    ensures note_room { OnOk result (deaths ≤ notes.new.room) }
 {
     if journal.has_room() && fates.has_room(ACCEPTED_AT_ONCE) && notes.has_room(deaths) {
         return Ok(());
@@ -90,8 +86,8 @@ pub(crate) fn write_entry(
     choice: Choice,
 ) -> Result<Reply, AllocError>
     requires due { Permits step.old.work.table actor event.now choice }
-    requires few_passes { (id : ℕ) → times id notes.old.transfers.items < 2 ^ 32 }
-    requires few_notes { length notes.old.list.notes < 2 ^ 32 }
+    requires few_passes { (id : ℕ) → times id notes.old.transfers < 2 ^ 32 }
+    requires few_notes { length notes.old.notes < 2 ^ 32 }
     requires counted { length fates.old.fates ≡ step.old.work.table.accepted }
     requires bounded { AcceptsFew step.old.work.table
         (after step.old.work.table (entry_with actor event.now choice)).work.table }
@@ -107,24 +103,24 @@ pub(crate) fn write_entry(
     ensures fates { OnOk result (fates.new.fates
         ≡ fates_after fates.old.fates
         (after step.old.work.table (entry_with actor event.now choice)).work) }
-    ensures notes { OnOk result (notes.new.list.notes
-        ≡ notes.old.list.notes
-        ++ noted notes.old.transfers.items (length notes.old.dying.items) step.old.work.table
+    ensures notes { OnOk result (notes.new.notes
+        ≡ notes.old.notes
+        ++ noted notes.old.transfers (length notes.old.dying) step.old.work.table
         (entry_with actor event.now choice) ∷ []) }
-    ensures dying { OnOk result (notes.new.dying.items
-        ≡ notes.old.dying.items
+    ensures dying { OnOk result (notes.new.dying
+        ≡ notes.old.dying
         ++ (work_of step.old.work.table (entry_with actor event.now choice)).dying) }
     ensures transfers { OnOk result
         (AreTransferred
         (work_of step.old.work.table
-        (entry_with actor event.now choice)).renamed notes.old.transfers.items notes.new.transfers.items) }
+        (entry_with actor event.now choice)).renamed notes.old.transfers notes.new.transfers) }
     ensures err_table { OnErr result (step.new.work.table ≡ step.old.work.table) }
     ensures err_journal { OnErr result (journal.new.entries ≡ journal.old.entries) }
     ensures err_replies { OnErr result (journal.new.replies ≡ journal.old.replies) }
     ensures err_fates { OnErr result (fates.new.fates ≡ fates.old.fates) }
-    ensures err_notes { OnErr result (notes.new.list.notes ≡ notes.old.list.notes) }
-    ensures err_dying { OnErr result (notes.new.dying.items ≡ notes.old.dying.items) }
-    ensures err_passed { OnErr result (notes.new.transfers.items ≡ notes.old.transfers.items) }
+    ensures err_notes { OnErr result (notes.new.notes ≡ notes.old.notes) }
+    ensures err_dying { OnErr result (notes.new.dying ≡ notes.old.dying) }
+    ensures err_passed { OnErr result (notes.new.transfers ≡ notes.old.transfers) }
 {
     make_room(journal, fates, notes, deaths_at_once(step.table()))?;
     let fact = fact_before(step.table(), actor, event, choice);

@@ -1,4 +1,4 @@
-ghost use Rattle.std.specs.Prelude.{◌≡◌, ◌↔◌, ◌++◌, ◌+◌, ◌≤◌, ◌<◌, ◌-◌, ◌∷◌, [], IsTrue, None, OnErr, OnOk, length, replicate, slice_get, vec_len, vec_capacity};
+ghost use Rattle.std.specs.Prelude.{◌≡◌, ◌↔◌, ◌++◌, ◌+◌, ◌≤◌, ◌<◌, ◌-◌, ◌^◌, ◌∷◌, [], IsTrue, None, OnErr, OnOk, length, replicate, slice_get, vec_len, vec_capacity};
 ghost use Rattle.tr_model.specs.declared.fates.Fate.TheVariants.{Pending};
 ghost use Rattle.tr_model.specs.Journals.{same_fate};
 ghost use Rattle.tr_kernel.specs.Private.{counted_under, ending_noted, endings_noted, tally};
@@ -17,7 +17,7 @@ struct EndedCounts {
     flushed: u64,
 }
 
-/// The fate of each accepted number, that of number n at place n - 1, and how many have each fate.
+/// The fate of each accepted number, that of number n at place n - 1, and how many have ended, by their fates.
 #[derive(Drop)]
 pub(crate) struct Fates {
     list: Vec<Fate>,
@@ -49,10 +49,10 @@ impl EndedCounts {
     /// Counts a number that was pending under its fate.
     #[inline(always)]
     fn add(&mut self, fate: Fate)
-        requires merged { self.old.merged + 1 < 18446744073709551616 }
-        requires delivered { self.old.delivered + 1 < 18446744073709551616 }
-        requires suppressed { self.old.suppressed + 1 < 18446744073709551616 }
-        requires flushed { self.old.flushed + 1 < 18446744073709551616 }
+        requires merged { self.old.merged + 1 < 2 ^ 64 }
+        requires delivered { self.old.delivered + 1 < 2 ^ 64 }
+        requires suppressed { self.old.suppressed + 1 < 2 ^ 64 }
+        requires flushed { self.old.flushed + 1 < 2 ^ 64 }
         ensures { self.new ≡ counted_under fate self.old }
     {
         match fate {

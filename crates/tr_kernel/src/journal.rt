@@ -64,7 +64,8 @@ impl Journal {
     pub(crate) fn has_room(&self) -> bool
         ensures { IsTrue result ↔ 0 < self.now.room }
     {
-        self.entries.len() < self.entries.capacity() && self.replies.len() < self.replies.capacity()
+        let len = self.entries.len();
+        len < self.entries.capacity() && len < self.replies.capacity()
     }
 
     pub(crate) fn entries(&self) -> &[Entry]

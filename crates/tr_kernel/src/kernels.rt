@@ -89,7 +89,7 @@ impl Model for Kernel {
           fates = k.fates.fates;
         })
         × IsNoted (table_of k.start) k.journal.entries
-        k.notes.list.notes k.notes.dying.items k.notes.transfers.items };
+        k.notes.notes k.notes.dying k.notes.transfers };
 }
 
 impl Kernel {
@@ -200,7 +200,7 @@ impl Kernel {
             ≡ fact_at (notes_of (table_of self.now.start) self.now.journal) position }
         ensures history { IsHistory self.now }
     {
-        fact_in(&self.notes.list.at(position))
+        fact_in(&self.notes.list().at(position))
     }
 
     /// Whether the entry at a position delivers a KILL.
@@ -208,7 +208,7 @@ impl Kernel {
         ensures { IsTrue result
             ↔ ((g : ℕ) × KillsAt (table_of self.now.start) self.now.journal position g) }
     {
-        is_killed(&self.notes.list.at(position))
+        is_killed(&self.notes.list().at(position))
     }
 
     /// The position of the first entry, between a wait for this thread's stop and a later position, that restarts the
@@ -227,8 +227,8 @@ impl Kernel {
             stop,
             tracer,
             self.journal.entries(),
-            &self.notes.list,
-            &self.notes.dying,
+            self.notes.list(),
+            self.notes.dying(),
             i as usize,
             j as usize - 1,
         )?;

@@ -87,8 +87,8 @@ impl StepLog {
         ensures { OnOk result (self.new ≡ log_of step.now.work) }
     {
         self.ended.extend_from_slice(step.ended())?;
-        self.raises.extend_from_slice(step.raises())?;
-        self.renamed.extend_from_slice(step.renamed())
+        self.raises.extend_from_slice(step.news().raises())?;
+        self.renamed.extend_from_slice(step.news().renamed())
     }
 }
 

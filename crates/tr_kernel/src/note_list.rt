@@ -189,6 +189,7 @@ impl NoteList {
     pub(crate) fn push_blank(&mut self, deaths: u64) -> bool
         requires few { length self.old.notes < 2 ^ 32 }
         ensures pushed { result ≡ true → self.new.notes ≡ self.old.notes ++ blank deaths ∷ [] }
+        ensures room { self.new.room ≡ self.old.room }
         ensures unchanged { result ≡ false → self.new ≡ self.old }
     {
         if self.deaths != deaths {

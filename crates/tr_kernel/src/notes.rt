@@ -1,10 +1,11 @@
 ghost use Rattle.std.specs.Prelude.{◌≡◌, ◌↔◌, ◌≤◌, ◌<◌, ◌+◌, ◌++◌, ◌∷◌, ◌^◌, [], ℕ, IsTrue, false, length, not, option_copied, slice_get, vec_len, vec_capacity, OnOk};
 ghost use Rattle.tr_kernel.specs.Notes.{exec_fact, is_some_group, is_stop_status, shows_stop, stop_fact, times};
-ghost use Rattle.tr_kernel.specs.Private.{AreTransferred, IsPlain, killed_in, fact_after, fact_before, fact_in, note_with, shown, transfers_in};
+ghost use Rattle.tr_kernel.specs.Private.{AreTransferred, killed_in, fact_after, fact_before, fact_in, note_with, shown, transfers_in};
 
 use crate::lists::append;
 use crate::note_list::NoteList;
 use std::alloc::{AllocError, Global};
+use std::marker::Model;
 use tr_model::{Choice, Event, Reply, Target};
 use tr_requests::ready_thread;
 use tr_sigset::Signal;
@@ -82,9 +83,11 @@ pub(crate) struct IdTransfer {
 /// The notes of a journal: one for each entry, and all groups whose death began, in order. Of each id that passed to
 /// another thread stands how often.
 pub(crate) struct Notes {
-    pub(crate) list: NoteList,
-    pub(crate) dying: Vec<u32>,
-    pub(crate) transfers: Vec<IdTransfer>,
+    list: NoteList,
+    dying: Vec<u32>,
+    transfers: Vec<IdTransfer>,
+    /// How many deaths one more entry may begin, for which there is also a note's place.
+    room: usize,
 }
 
 impl Drop for Notes {
@@ -93,8 +96,19 @@ impl Drop for Notes {
             list: _,
             dying: _,
             transfers: _,
+            room: _,
         } = self;
     }
+}
+
+impl Model for Notes {
+    ghost use Rattle.tr_kernel.specs.KeptNotes.{HasPlaces, KeptNotes, kept_notes};
+
+    ghost Value = { KeptNotes };
+
+    ghost view = { kept_notes };
+
+    ghost invariant = { HasPlaces };
 }
 
 // What the table shows before the step
@@ -254,18 +268,6 @@ fn append_all(list: &mut Vec<u32>, more: &[u32])
     }
 }
 
-/// Tells whether a step did nothing that a note would tell: it took from no queue, no group's death began, nobody was
-/// killed, and no id passed on.
-#[inline(always)]
-fn is_plain(step: &Step) -> bool
-    ensures { IsTrue result ↔ IsPlain step.now }
-{
-    step.taken_from().is_none()
-        && step.dying().is_empty()
-        && step.killed().is_empty()
-        && step.renamed().is_empty()
-}
-
 // What a note says
 
 pub(crate) fn fact_in(note: &Option<Note>) -> EntryFact
@@ -288,67 +290,72 @@ pub(crate) fn is_killed(note: &Option<Note>) -> bool
 
 impl Notes {
     pub(crate) fn new(alloc: Global) -> Notes
-        ensures { (result.list.notes ≡ [])
-            × (result.dying.items ≡ [])
-            × (result.transfers.items ≡ []) }
+        ensures notes { result.notes ≡ [] }
+        ensures dying { result.dying ≡ [] }
+        ensures transfers { result.transfers ≡ [] }
     {
         Notes {
             list: NoteList::new(alloc),
             dying: Vec::new(alloc),
             transfers: Vec::new(alloc),
+            room: 0,
         }
+    }
+
+    pub(crate) fn list(&self) -> &NoteList
+        ensures { result.now.notes ≡ self.now.notes }
+    {
+        &self.list
+    }
+
+    pub(crate) fn dying(&self) -> &[u32]
+        ensures { result.now ≡ self.now.dying }
+    {
+        self.dying.as_slice()
     }
 
     /// Makes room for the note of one entry, by which at most this many deaths of groups begin. Where memory is refused
     /// the notes are as before.
     #[inline(never)]
     pub(crate) fn reserve(&mut self, deaths: usize) -> Result<(), AllocError>
-        ensures list { self.new.list.notes ≡ self.old.list.notes }
-        ensures dying { self.new.dying.items ≡ self.old.dying.items }
-        ensures transfers { self.new.transfers.items ≡ self.old.transfers.items }
-        ensures note_room { OnOk result (0 < self.new.list.room) }
-        ensures dying_room { OnOk result
-            (vec_len self.new.dying + deaths ≤ vec_capacity self.new.dying) }
-        ensures transfer_room { OnOk result
-            (vec_len self.new.transfers < vec_capacity self.new.transfers) }
+        ensures notes { self.new.notes ≡ self.old.notes }
+        ensures dying { self.new.dying ≡ self.old.dying }
+        ensures transfers { self.new.transfers ≡ self.old.transfers }
+        ensures room { OnOk result (deaths ≤ self.new.room) }
     {
+        self.room = 0;
         self.list.reserve_one()?;
         self.dying.reserve(deaths)?;
-        self.transfers.reserve(1)
+        self.transfers.reserve(1)?;
+        self.room = deaths;
+        Ok(())
     }
 
-    /// Whether there are places for the note of one entry, by which so many deaths of groups begin.
+    /// Whether there is room for the note of one entry, by which so many deaths of groups begin.
     #[inline(always)]
     pub(crate) fn has_room(&self, deaths: usize) -> bool
-        ensures { IsTrue result
-            ↔ (0 < self.now.list.room)
-            × (vec_len self.now.dying + deaths ≤ vec_capacity self.now.dying)
-            × (vec_len self.now.transfers < vec_capacity self.now.transfers) }
+        ensures { IsTrue result ↔ deaths ≤ self.now.room }
     {
-        self.list.has_room()
-            && self.dying.capacity() - self.dying.len() >= deaths
-            && self.transfers.len() < self.transfers.capacity()
+        deaths <= self.room
     }
 
     /// Notes an entry, for which there is room: what it was before the step, and what the step made.
     #[inline(always)]
     pub(crate) fn note(&mut self, fact: FactBefore, step: &Step, reply: &Reply)
-        requires list { (0 < self.old.list.room) × (length self.old.list.notes < 2 ^ 32) }
-        requires dying { vec_len self.old.dying + length step.now.work.dying
-            ≤ vec_capacity self.old.dying }
-        requires transfers { vec_len self.old.transfers < vec_capacity self.old.transfers }
-        requires few { (n : ℕ) → times n self.old.transfers.items < 2 ^ 32 }
+        requires room { 0 < self.old.room }
+        requires dying { length step.now.work.dying ≤ self.old.room }
+        requires few_notes { length self.old.notes < 2 ^ 32 }
+        requires few { (n : ℕ) → times n self.old.transfers < 2 ^ 32 }
         requires one { length step.now.work.renamed ≤ 1 }
-        ensures list { self.new.list.notes
-            ≡ self.old.list.notes
-            ++ note_with (fact_after (shown fact) step.now.taken_from self.old.transfers.items reply.now)
-            (length self.old.dying.items) step.now.work ∷ [] }
-        ensures dying { self.new.dying.items ≡ self.old.dying.items ++ step.now.work.dying }
-        ensures transfers { AreTransferred step.now.work.renamed
-            self.old.transfers.items self.new.transfers.items }
+        ensures notes { self.new.notes
+            ≡ self.old.notes
+            ++ note_with (fact_after (shown fact) step.now.taken_from self.old.transfers reply.now)
+            (length self.old.dying) step.now.work ∷ [] }
+        ensures dying { self.new.dying ≡ self.old.dying ++ step.now.work.dying }
+        ensures transfers { AreTransferred step.now.work.renamed self.old.transfers self.new.transfers }
     {
         if matches!(fact, FactBefore::Nothing)
-            && is_plain(step)
+            && step.news().is_plain()
             && self.list.push_blank(self.dying.len() as u64)
         {
             return;
@@ -359,28 +366,42 @@ impl Notes {
     /// Notes an entry that may be something to the laws.
     #[inline(never)]
     fn note_made(&mut self, fact: FactBefore, step: &Step, reply: Reply)
-        requires list { (0 < self.old.list.room) × (length self.old.list.notes < 2 ^ 32) }
-        requires dying { vec_len self.old.dying + length step.now.work.dying
-            ≤ vec_capacity self.old.dying }
-        requires transfers { vec_len self.old.transfers < vec_capacity self.old.transfers }
-        requires few { (n : ℕ) → times n self.old.transfers.items < 2 ^ 32 }
+        requires room { 0 < self.old.room }
+        requires dying { length step.now.work.dying ≤ self.old.room }
+        requires few_notes { length self.old.notes < 2 ^ 32 }
+        requires few { (n : ℕ) → times n self.old.transfers < 2 ^ 32 }
         requires one { length step.now.work.renamed ≤ 1 }
-        ensures list { self.new.list.notes
-            ≡ self.old.list.notes
-            ++ note_with (fact_after (shown fact) step.now.taken_from self.old.transfers.items reply)
-            (length self.old.dying.items) step.now.work ∷ [] }
-        ensures dying { self.new.dying.items ≡ self.old.dying.items ++ step.now.work.dying }
-        ensures transfers { AreTransferred step.now.work.renamed
-            self.old.transfers.items self.new.transfers.items }
+        ensures notes { self.new.notes
+            ≡ self.old.notes
+            ++ note_with (fact_after (shown fact) step.now.taken_from self.old.transfers reply)
+            (length self.old.dying) step.now.work ∷ [] }
+        ensures dying { self.new.dying ≡ self.old.dying ++ step.now.work.dying }
+        ensures transfers { AreTransferred step.now.work.renamed self.old.transfers self.new.transfers }
     {
-        let fact = fact_after(fact, &reply, step.taken_from(), &self.transfers);
-        append_all(&mut self.dying, step.dying());
-        count_first_transfer(&mut self.transfers, step.renamed());
+        self.room = 0;
+        let fact = fact_after(fact, &reply, step.news().taken_from(), &self.transfers);
+        append_all(&mut self.dying, step.news().dying());
+        count_first_transfer(&mut self.transfers, step.news().renamed());
         let note = Note {
             fact,
-            killed: !step.killed().is_empty(),
+            killed: !step.news().killed().is_empty(),
             deaths: self.dying.len() as u64,
         };
         self.list.push(&note);
+        self.count_room();
+    }
+
+    /// Counts the room that is left.
+    #[inline(always)]
+    fn count_room(&mut self)
+        ensures notes { self.new.notes ≡ self.old.notes }
+        ensures dying { self.new.dying ≡ self.old.dying }
+        ensures transfers { self.new.transfers ≡ self.old.transfers }
+    {
+        self.room = if self.list.has_room() && self.transfers.len() < self.transfers.capacity() {
+            self.dying.capacity() - self.dying.len()
+        } else {
+            0
+        };
     }
 }

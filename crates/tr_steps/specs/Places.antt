@@ -8,23 +8,20 @@ use Rattle.tr_steps.specs.declared.steps.Step.TheInside.{Inside}
 -- the lists are the model's log
 abbrev pub seen : Inside → UnderWay
 seen s = record {
-  work = record { table = s.table.table; ended = s.ended.items; raises = s.raises.items; dying = s.dying.items; killed = s.killed.items; renamed = s.renamed.items };
+  work = record { table = s.table.table; ended = s.ended.items; raises = s.news.news.raises; dying = s.news.news.dying; killed = s.news.news.killed; renamed = s.news.news.renamed };
   room = s.room;
-  taken_from = s.taken_from;
+  taken_from = s.news.news.taken_from;
 }
 
 -- n more signals and n more reports can be numbered
 abbrev pub CanNumber : Table → ℕ → Type 0
 CanNumber T n = (T.accepted + n < 2 ^ 64) × (T.raised + n < 2 ^ 64)
 
--- A place for each instance that can still end, and for each move. What ends leaves a queue or a thread that held it,
+-- A place for each instance that can still end, and for the news of each move. What ends leaves a queue or a thread that held it,
 -- so this stays as it is while instances end.
 pub record Places (s : Inside) : Type 0 where
   pub ended : (vec_len s.ended + (length s.table.table.waiting + held_count s.table.table.threads)) + s.room ≤ vec_capacity s.ended
-  pub raises : vec_len s.raises + s.room ≤ vec_capacity s.raises
-  pub dying : vec_len s.dying + s.room ≤ vec_capacity s.dying
-  pub killed : vec_len s.killed + s.room ≤ vec_capacity s.killed
-  pub renamed : vec_len s.renamed + s.room ≤ vec_capacity s.renamed
+  pub news : s.room ≤ s.news.room
   pub waiting : s.room ≤ s.table.room
   pub accepted : s.table.table.accepted + s.room < 2 ^ 64
   pub raised : s.table.table.raised + s.room < 2 ^ 64

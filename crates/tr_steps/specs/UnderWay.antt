@@ -9,12 +9,17 @@ use Rattle.tr_model.specs.Moves.{Work, begin}
 use Rattle.tr_model.specs.Steps.{Outcome, after}
 use Rattle.tr_model.specs.Choices.{no_choice}
 use Rattle.tr_model.specs.Tables.{Table}
+use Rattle.tr_steps.specs.News.{News}
 
 -- the model's work, for how many more moves there is a place, and whose queue a take took from
 pub record UnderWay : Type 0 where
   pub work : Work
   pub room : ℕ
   pub taken_from : Option Target
+
+-- what it did beside what it ended
+abbrev pub news_of : UnderWay → News
+news_of u = record { raises = u.work.raises; dying = u.work.dying; killed = u.work.killed; renamed = u.work.renamed; taken_from = u.taken_from }
 
 -- a step that did nothing yet
 abbrev pub begun : Table → UnderWay

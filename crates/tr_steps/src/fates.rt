@@ -35,7 +35,8 @@ impl Step {
     }
 
     fn fate_unless_ignored(&self, signal: Signal, target: Target, action: Action) -> Fate
-        requires { action ≡ action_of self.now.work.table (owner self.now.work.table target) signal }
+        requires { action
+            ≡ action_of self.now.work.table (owner self.now.work.table target) signal }
         ensures { result ≡ fate_unless_ignored self.now.work.table signal target }
     {
         if self.is_ignored(signal, target, action) {

@@ -6,7 +6,9 @@ mod deaths;
 mod fates;
 mod group_stops;
 mod moves;
+mod news;
 mod sends;
 mod steps;
 
+pub use news::News;
 pub use steps::Step;

@@ -75,7 +75,7 @@ impl Step {
     {
         self.room -= 1;
         self.table.note(tgid, status);
-        self.raises.push_reserved(Raise {
+        self.news.raise(&Raise {
             number: self.table.raised(),
             whom: None,
             id: tgid,
@@ -139,7 +139,7 @@ impl Step {
     {
         self.room -= 1;
         let raise = self.table.enter(id, stop);
-        push_raise(&mut self.raises, &raise);
+        self.news.raise_some(&raise);
     }
 
     /// The report of a dead thread's death.
@@ -149,7 +149,7 @@ impl Step {
     {
         self.room -= 1;
         let raise = self.table.report_death(id, end);
-        push_raise(&mut self.raises, &raise);
+        self.news.raise_some(&raise);
     }
 
     /// A dead thread goes.
@@ -241,7 +241,7 @@ impl Step {
     {
         self.room -= 1;
         let leader = self.table.take_place(id);
-        push_id(&mut self.renamed, leader);
+        self.news.rename_some(leader);
     }
 
     /// The death of a group began.
@@ -250,7 +250,7 @@ impl Step {
         ensures { Moves (tell_dying tgid) 1 self.old self.new }
     {
         self.room -= 1;
-        self.dying.push_reserved(tgid);
+        self.news.tell_dying(tgid);
     }
 
     /// A KILL was delivered to a group.
@@ -259,44 +259,7 @@ impl Step {
         ensures { Moves (tell_killed tgid) 1 self.old self.new }
     {
         self.room -= 1;
-        self.killed.push_reserved(tgid);
-    }
-}
-
-/// Appends a report, if one was raised.
-fn push_raise(raises: &mut Vec<Raise>, raise: &Option<Raise>)
-    requires { vec_len raises.old < vec_capacity raises.old }
-    ensures items { raises.new.items ≡ raises.old.items ++ option_to_list raise.now }
-    ensures len { vec_len raises.new ≤ vec_len raises.old + 1 }
-    ensures capacity { vec_capacity raises.new ≡ vec_capacity raises.old }
-{
-    if let Some(
-        Raise {
-            number,
-            whom,
-            id,
-            status,
-        },
-    ) = raise
-    {
-        raises.push_reserved(Raise {
-            number: *number,
-            whom: *whom,
-            id: *id,
-            status: *status,
-        });
-    }
-}
-
-/// Appends the id that a thread took, if it took one.
-fn push_id(ids: &mut Vec<u32>, id: Option<u32>)
-    requires { vec_len ids.old < vec_capacity ids.old }
-    ensures items { ids.new.items ≡ ids.old.items ++ option_to_list id }
-    ensures len { vec_len ids.new ≤ vec_len ids.old + 1 }
-    ensures capacity { vec_capacity ids.new ≡ vec_capacity ids.old }
-{
-    if let Some(id) = id {
-        ids.push_reserved(id);
+        self.news.tell_killed(tgid);
     }
 }
 

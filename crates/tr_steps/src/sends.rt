@@ -95,7 +95,8 @@ impl Step {
 
     #[inline(always)]
     pub(crate) fn is_ignored(&self, signal: Signal, target: Target, action: Action) -> bool
-        requires { action ≡ action_of self.now.work.table (owner self.now.work.table target) signal }
+        requires { action
+            ≡ action_of self.now.work.table (owner self.now.work.table target) signal }
         ensures { result ≡ is_ignored self.now.work.table signal target }
     {
         action.ignores(signal) && self.is_open(signal, target)

@@ -3,11 +3,12 @@ ghost use Rattle.std.specs.Option.{SomeIff};
 ghost use Rattle.tr_model.specs.Moves.{begin};
 ghost use Rattle.tr_model.specs.Tables.{thread_of};
 ghost use Rattle.tr_steps.specs.Places.{CanNumber};
-ghost use Rattle.tr_steps.specs.UnderWay.{begun};
+ghost use Rattle.tr_steps.specs.UnderWay.{begun, news_of};
 
+use crate::news::News;
 use std::alloc::{AllocError, Global};
 use std::marker::Model;
-use tr_model::{Ending, Raise, Target};
+use tr_model::{Ending, Target};
 use tr_table::Table;
 use tr_tracee::Thread;
 
@@ -15,11 +16,7 @@ use tr_tracee::Thread;
 pub struct Step {
     pub(crate) table: Table,
     pub(crate) ended: Vec<Ending>,
-    pub(crate) raises: Vec<Raise>,
-    pub(crate) dying: Vec<u32>,
-    pub(crate) killed: Vec<u32>,
-    pub(crate) renamed: Vec<u32>,
-    pub(crate) taken_from: Option<Target>,
+    pub(crate) news: News,
     /// For how many more moves there is a place in each list. 0 between two steps.
     pub(crate) room: usize,
 }
@@ -29,11 +26,7 @@ impl Drop for Step {
         let Step {
             table: _,
             ended: _,
-            raises: _,
-            dying: _,
-            killed: _,
-            renamed: _,
-            taken_from: _,
+            news: _,
             room: _,
         } = self;
     }
@@ -71,11 +64,7 @@ impl Step {
         Step {
             table,
             ended: Vec::new(alloc),
-            raises: Vec::new(alloc),
-            dying: Vec::new(alloc),
-            killed: Vec::new(alloc),
-            renamed: Vec::new(alloc),
-            taken_from: None,
+            news: News::new(alloc),
             room: 0,
         }
     }
@@ -102,46 +91,18 @@ impl Step {
         self.ended.as_slice()
     }
 
-    /// The reports that the step raised, in order.
-    pub fn raises(&self) -> &[Raise]
-        ensures { result.now ≡ self.now.work.raises }
+    /// What else it did.
+    pub fn news(&self) -> &News
+        ensures { result.now.news ≡ news_of self.now }
     {
-        self.raises.as_slice()
-    }
-
-    /// The groups whose death the step began, in order.
-    pub fn dying(&self) -> &[u32]
-        ensures { result.now ≡ self.now.work.dying }
-    {
-        self.dying.as_slice()
-    }
-
-    /// The groups that a KILL was delivered to, in order.
-    pub fn killed(&self) -> &[u32]
-        ensures { result.now ≡ self.now.work.killed }
-    {
-        self.killed.as_slice()
-    }
-
-    /// The ids that the step gave to another thread.
-    pub fn renamed(&self) -> &[u32]
-        ensures { result.now ≡ self.now.work.renamed }
-    {
-        self.renamed.as_slice()
-    }
-
-    /// Whose queue a take took from. None in every other step.
-    pub fn taken_from(&self) -> Option<Target>
-        ensures { result ≡ self.now.taken_from }
-    {
-        self.taken_from
+        &self.news
     }
 
     /// Writes down whose queue this step, a take, takes from.
     pub fn take_from(&mut self, queue: Target)
         ensures { self.new ≡ record self.old { taken_from = Some queue } }
     {
-        self.taken_from = Some(queue);
+        self.news.take_from(queue);
     }
 
     /// The number that the next accepted signal gets.
@@ -172,11 +133,7 @@ impl Step {
     {
         self.room = 0;
         self.ended.clear();
-        self.raises.clear();
-        self.dying.clear();
-        self.killed.clear();
-        self.renamed.clear();
-        self.taken_from = None;
+        self.news.clear();
     }
 
     /// How much may end in a step of so many moves: all that waits, what each thread may hold, and what the moves accept.
@@ -200,12 +157,7 @@ impl Step {
         ensures room { result ≡ true → self.new.room ≡ moves }
         ensures unchanged { result ≡ false → self.new ≡ self.old }
     {
-        if self.raises.capacity() < moves
-            || self.dying.capacity() < moves
-            || self.killed.capacity() < moves
-            || self.renamed.capacity() < moves
-            || self.ended.capacity() < self.most_ended(moves)
-        {
+        if !self.news.has_places(moves) || self.ended.capacity() < self.most_ended(moves) {
             return false;
         }
         if !self.table.has_room(moves) {
@@ -226,10 +178,7 @@ impl Step {
     {
         let can_end = self.most_ended(moves);
         self.ended.reserve(can_end)?;
-        self.raises.reserve(moves)?;
-        self.dying.reserve(moves)?;
-        self.killed.reserve(moves)?;
-        self.renamed.reserve(moves)?;
+        self.news.reserve(moves)?;
         self.table.reserve(moves)?;
         self.room = moves;
         Ok(())

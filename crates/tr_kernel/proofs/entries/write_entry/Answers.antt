@@ -9,7 +9,7 @@ use Rattle.tr_kernel.proofs.entries.write_entry.Goals as goal
 pub note-requires-clause-dying : goal.note-requires-clause-dying
 note-requires-clause-dying c =
     let few = deaths_few c.args.step.now.work.table (record { actor = c.args.actor; event = c.args.event.now; choice = c.args.choice }) in
-    omega (arith, c.in_ok-make_room.ensures.dying_room, few, c.deaths_at_once.ensures, ap (λ (w : Work). length w.dying) c.in_ok-reply.ensures.did.work, ap (λ T. length T.threads) c.table.ensures)
+    omega (arith, c.in_ok-make_room.ensures.note_room, few, c.deaths_at_once.ensures, ap (λ (w : Work). length w.dying) c.in_ok-reply.ensures.did.work, ap (λ T. length T.threads) c.table.ensures)
 
 pub note-requires-clause-one : goal.note-requires-clause-one
 note-requires-clause-one c =

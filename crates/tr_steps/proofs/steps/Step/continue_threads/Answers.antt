@@ -14,10 +14,7 @@ invariant_of-self c p =
     let e = o.ended in
     record {
       ended = omega arith;
-      raises = o.raises;
-      dying = o.dying;
-      killed = o.killed;
-      renamed = o.renamed;
+      news = o.news;
       waiting = rw (ap (λ (v : View). v.room) b) o.waiting;
       accepted = rw (ap (λ (v : View). v.table.accepted) b) o.accepted;
       raised = rw (ap (λ (v : View). v.table.raised) b) o.raised;

@@ -18,10 +18,7 @@ invariant_of-self c p =
     let h = helds_leaving_for_exec c.args.tgid c.args.id c.args.end.now was.threads in
     record {
       ended = omega arith;
-      raises = o.raises;
-      dying = o.dying;
-      killed = o.killed;
-      renamed = o.renamed;
+      news = o.news;
       waiting = rw (ap (λ T. T.room) c.change_and_flush.ensures.table) o.waiting;
       accepted = rw (ap (λ T. T.table.accepted) c.change_and_flush.ensures.table) o.accepted;
       raised = rw (ap (λ T. T.table.raised) c.change_and_flush.ensures.table) o.raised;

@@ -1,0 +1,13 @@
+use Rattle.std.proofs.Common.{ℕ, ◌<◌, ◌^◌, subst, sym}
+use Rattle.tr_kernel.specs.KeptNotes.{KeptNotes}
+use Rattle.tr_kernel.specs.Notes.{times}
+use Rattle.tr_kernel.proofs.notes.Notes.note_made.Goals as goal
+
+pub fact_after-fact-requires : goal.fact_after-fact-requires
+fact_after-fact-requires c =
+    let few = subst (λ (v : KeptNotes). (n : ℕ) → times n v.transfers < 2 ^ 32) (sym c.self.view_is) c.requires.few in
+    record { few = subst (λ ts. (n : ℕ) → times n ts < 2 ^ 32) (sym c.deref.ensures.value) few }
+
+pub count_first_transfer-requires-clause-few : goal.count_first_transfer-requires-clause-few
+count_first_transfer-requires-clause-few c =
+    subst (λ (v : KeptNotes). (n : ℕ) → times n v.transfers < 2 ^ 32) (sym c.self.view_is) c.requires.few

@@ -1,0 +1,22 @@
+-- What private contracts see of all that the notes keep.
+use Rattle.std.specs.Prelude.{ℕ, ◌+◌, ◌<◌, ◌≤◌, List, vec_capacity, vec_len}
+use Rattle.tr_kernel.specs.declared.notes.IdTransfer.{IdTransfer}
+use Rattle.tr_kernel.specs.declared.notes.Note.{Note}
+use Rattle.tr_kernel.specs.declared.notes.Notes.TheInside.{Inside}
+
+-- the note of each entry, all groups whose death began and how often each id has passed on, and how many deaths one more
+-- entry may begin
+pub record KeptNotes : Type 0 where
+  pub notes : List Note
+  pub dying : List ℕ
+  pub transfers : List IdTransfer
+  pub room : ℕ
+
+abbrev pub kept_notes : Inside → KeptNotes
+kept_notes n = record { notes = n.list.notes; dying = n.dying.items; transfers = n.transfers.items; room = n.room }
+
+-- where so many deaths may begin, there is a place for each, for a note and for an id
+pub record HasPlaces (n : Inside) : Type 0 where
+  pub dying : vec_len n.dying + n.room ≤ vec_capacity n.dying
+  pub list : 0 < n.room → 0 < n.list.room
+  pub transfers : 0 < n.room → vec_len n.transfers < vec_capacity n.transfers
