@@ -30,8 +30,5 @@ fn are_tables_alike(one: &Table, other: &Table) -> bool {
 }
 
 fn have_same_pending(one: &Table, other: &Table) -> bool {
-    (1..=one.accepted()).all(|number| {
-        one.instance(number) == other.instance(number)
-            && one.target_of(number) == other.target_of(number)
-    })
+    (1..=one.accepted()).all(|number| one.waiting(number) == other.waiting(number))
 }

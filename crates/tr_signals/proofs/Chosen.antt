@@ -43,15 +43,6 @@ target_found x (w ∷ ws) s (inr m) =
     let other : (w.instance.n == x.instance.n) ≡ false = grind (arith, nat_tests, less) in
     ap (λ b. if b then Some w.target else target_in ws x.instance.n) other ∙ target_found x ws s.1 m
 
--- what waits, waits in some queue
-pub waits_somewhere : (ws : List Waiting) (n : ℕ) (i : Instance) → instance_in ws n ≡ Some i → is_some (target_in ws n) ≡ true
-waits_somewhere [] n i e = cc
-waits_somewhere (w ∷ ws) n i e = go (w.instance.n == n) e (waits_somewhere ws n i)
-  where
-    go : (b : Bool) → (if b then Some w.instance else instance_in ws n) ≡ Some i → (instance_in ws n ≡ Some i → is_some (target_in ws n) ≡ true) → is_some (if b then Some w.target else target_in ws n) ≡ true
-    go true q rest = refl
-    go false q rest = rest q
-
 record Queued (q : Target) (i : Instance) (ws : List Waiting) : Type 0 where
   row : Waiting
   among : Among row ws

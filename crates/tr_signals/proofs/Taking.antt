@@ -58,7 +58,7 @@ is_due T a id n p =
 pub record Took (T : Table) (id n : ℕ) (t : Thread) (i : Instance) : Type 0 where
   pub takes : Takes T t i
   pub does : at id (take_numbered n) (begin T) ≡ take t i (begin T)
-  pub queue : queue_of (taken_by T (thread_of T id) n) ≡ target_in T.waiting i.n
+  pub queue : queue_of (taken_by T (thread_of T id) n) ≡ target_in T.waiting n
 
 took_is : (T : Table) (id n : ℕ) → IsSorted T.waiting → (d : IsDue T id n) → Took T id n d.thread d.instance
 took_is T id n s d =
@@ -66,7 +66,7 @@ took_is T id n s d =
     record {
       takes = record { there = itself T.threads id d.thread d.there; free = b.free; waits = ap (instance_in T.waiting) b.number ∙ b.waits };
       does = ap (λ o. on_thread o (take_numbered n) (begin T)) d.there ∙ ap (λ o. on_instance o (take d.thread) (begin T)) d.chosen;
-      queue = ap (λ o. queue_of (taken_by T o n)) d.there ∙ (ap queue_of b.taken ∙ (sym b.there ∙ ap (target_in T.waiting) (sym b.number)));
+      queue = ap (λ o. queue_of (taken_by T o n)) d.there ∙ (ap queue_of b.taken ∙ sym b.there);
     }
 
 pub waits_there : (T : Table) (id n : ℕ) → IsSorted T.waiting → (d : IsDue T id n) → instance_in T.waiting n ≡ Some d.instance

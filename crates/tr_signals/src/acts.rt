@@ -50,6 +50,7 @@ fn initiate_unless(step: &mut Step, came: bool, tgid: u32, signal: Signal)
 
 /// A thread does at a signal what its action makes of that: `came` says that a SIGCONT came since the thread took it,
 /// so that a stop signal begins no group-stop.
+#[inline(always)]
 pub fn act(step: &mut Step, thread: &Thread, signal: Signal, came: bool, did: Did)
     requires { 2 ≤ step.old.room }
     ensures { Moves (act thread.now signal came did) 2 step.old step.new }

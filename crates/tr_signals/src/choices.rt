@@ -49,12 +49,12 @@ pub fn took_reply(table: &Table, tid: u32, n: u64) -> Reply
     let Some(thread) = table.find(tid) else {
         return Reply::Nothing;
     };
-    let Some(instance) = table.instance(n) else {
+    let Some(waiting) = table.waiting(n) else {
         return Reply::Nothing;
     };
     Reply::Took {
         tid: thread.id,
-        inst: instance,
-        did: did_at_take(table, thread, &instance),
+        inst: waiting.instance,
+        did: did_at_take(table, thread, &waiting.instance),
     }
 }

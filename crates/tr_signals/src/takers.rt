@@ -1,7 +1,8 @@
 //! Which thread of a group takes a pending signal, and what it does with it: signal(7).
 
-ghost use Rattle.std.specs.Prelude.{◌≡◌, ℕ, IfOk, OnErr};
+ghost use Rattle.std.specs.Prelude.{◌≡◌, ℕ, IfOk, OnErr, Option, option_map};
 ghost use Rattle.std.specs.List.{find};
+ghost use Rattle.tr_pending.specs.declared.instance.Instance.{Instance};
 ghost use Rattle.tr_model.specs.Compare.{Permits};
 ghost use Rattle.tr_model.specs.declared.events.Event.TheVariants.{TakeAny};
 ghost use Rattle.tr_model.specs.Preferred.{check, taking_by};
@@ -11,11 +12,10 @@ ghost use Rattle.tr_model.specs.Takes.{can_take};
 ghost use Rattle.tr_table.specs.Rows.{RowsOf};
 ghost use Rattle.tr_steps.specs.UnderWay.{IsStepOf};
 
-use crate::takes::{best_for, take_due};
+use crate::takes::{best_number_for, take_due};
 use std::alloc::AllocError;
 use tr_lanes::first_ready;
 use tr_model::{Checked, Choice, Refusal, Reply};
-use tr_pending::Instance;
 use tr_steps::Step;
 use tr_table::{Rows, Table};
 use tr_tracee::Thread;
@@ -29,11 +29,11 @@ fn first_taker(table: &Table, tgid: u32, rows: &Rows) -> Option<Thread>
     table.member(tgid, place).copied()
 }
 
-fn taking_by(tid: u32, best: &Option<Instance>) -> Choice
-    ensures { result ≡ taking_by tid best.now }
+fn taking_by(tid: u32, best: Option<u64>) -> Choice
+    ensures { (i : Option Instance) → best ≡ option_map (λ i. i.n) i → result ≡ taking_by tid i }
 {
     match best {
-        Some(instance) => Choice::of_thread(tid, instance.n),
+        Some(n) => Choice::of_thread(tid, n),
         None => Choice::NONE,
     }
 }
@@ -49,7 +49,7 @@ pub fn check_take_any(table: &Table, tgid: u32) -> Result<Checked, Refusal>
         return Err(Refusal::Srch);
     };
     match first_taker(table, tgid, &rows) {
-        Some(thread) => Ok(Checked::Due(taking_by(thread.id, &best_for(table, &thread)))),
+        Some(thread) => Ok(Checked::Due(taking_by(thread.id, best_number_for(table, &thread)))),
         None => Ok(Checked::Quiet(Reply::Nothing)),
     }
 }
@@ -72,6 +72,6 @@ pub fn take_any(
 {
     let table = step.table();
     let thread = *table.find(tid).unwrap();
-    let instance = table.instance(n).unwrap();
-    take_due(step, &thread, &instance)
+    let waiting = *table.waiting(n).unwrap();
+    take_due(step, &thread, &waiting)
 }

@@ -1,33 +1,32 @@
 //! Which pending signal a thread takes, and what it does with it: signal(7), and "Signal-delivery-stop" of ptrace(2).
 
-ghost use Rattle.std.specs.Prelude.{◌≡◌, ◌≤◌, ℕ, IfOk, OnErr, false};
+ghost use Rattle.std.specs.Prelude.{◌≡◌, ◌≤◌, ℕ, IfOk, OnErr, Some, false, option_map};
 ghost use Rattle.tr_model.specs.Compare.{Permits};
 ghost use Rattle.tr_model.specs.declared.events.Event.TheVariants.{Take};
 ghost use Rattle.tr_model.specs.Preferred.{best_for, check};
 ghost use Rattle.tr_model.specs.Choices.{takes_instance};
 ghost use Rattle.tr_model.specs.Takes.{act, can_take, deliver, did_at_take, take};
-ghost use Rattle.tr_table.specs.Choices.{target_in};
 ghost use Rattle.tr_steps.specs.UnderWay.{ComesTo, IsStepOf, Moves};
 ghost use Rattle.tr_signals.specs.Private.{Takes, take_outcome};
 
 use crate::acts::{act, did_of};
 use std::alloc::AllocError;
-use tr_model::{Checked, Choice, Did, Refusal, Reply, Target};
+use tr_model::{Checked, Choice, Did, Refusal, Reply, Target, Waiting};
 use tr_pending::Instance;
 use tr_steps::Step;
 use tr_table::Table;
 use tr_tracee::Thread;
 
-/// What a thread takes next: from its own queue before the shared one, the first of the least number.
-pub(crate) fn best_for(table: &Table, thread: &Thread) -> Option<Instance>
-    ensures { result ≡ best_for table.now.table thread.now }
+/// The number of what a thread takes next: from its own queue before the shared one, the first of the least signal.
+pub(crate) fn best_number_for(table: &Table, thread: &Thread) -> Option<u64>
+    ensures { result ≡ option_map (λ i. i.n) (best_for table.now.table thread.now) }
 {
     if !thread.is_ready_to_take() {
         return None;
     }
-    match table.best(Target::Thread(thread.id), thread.mask) {
-        Some(instance) => Some(instance),
-        None => table.best(Target::Group(thread.group), thread.mask),
+    match table.best_number(Target::Thread(thread.id), thread.mask) {
+        Some(n) => Some(n),
+        None => table.best_number(Target::Group(thread.group), thread.mask),
     }
 }
 
@@ -35,7 +34,7 @@ pub(crate) fn best_for(table: &Table, thread: &Thread) -> Option<Instance>
 pub(crate) fn can_take(table: &Table, thread: &Thread) -> bool
     ensures { result ≡ can_take table.now.table thread.now }
 {
-    best_for(table, thread).is_some()
+    best_number_for(table, thread).is_some()
 }
 
 /// Whether a take by a thread is refused, answered Nothing, or due. ESRCH comes where there is no such thread,
@@ -53,8 +52,8 @@ pub fn check_take(table: &Table, tid: u32) -> Result<Checked, Refusal>
     if thread.has_mark() {
         return Err(Refusal::Busy);
     }
-    match best_for(table, thread) {
-        Some(instance) => Ok(Checked::Due(Choice::of_instance(instance.n))),
+    match best_number_for(table, thread) {
+        Some(n) => Ok(Checked::Due(Choice::of_instance(n))),
         None => Ok(Checked::Quiet(Reply::Nothing)),
     }
 }
@@ -92,25 +91,24 @@ fn take_instance(step: &mut Step, thread: &Thread, instance: &Instance, did: Did
     }
 }
 
-/// A take that is due: the thread takes the instance, from the queue where it waits. Where memory is refused, or the numbers are used up, nothing has
-/// changed.
-#[tactic(auto, using(crate::proofs::Chosen::waits_somewhere))]
+/// A take that is due: the thread takes what waits, from the queue where it waits. Where memory is refused, or the numbers
+/// are used up, nothing has changed.
 #[inline(always)]
 pub(crate) fn take_due(
     step: &mut Step,
     thread: &Thread,
-    instance: &Instance,
+    waiting: &Waiting,
 ) -> Result<Reply, AllocError>
-    requires takes { Takes step.old.work.table thread.now instance.now }
+    requires takes { Takes step.old.work.table thread.now waiting.now.instance }
     ensures did { IfOk result
-        (ComesTo (take_outcome step.old.work.table thread.now instance.now)
-        (target_in step.old.work.table.waiting instance.now.n) step.new) }
+        (ComesTo (take_outcome step.old.work.table thread.now waiting.now.instance)
+        (Some waiting.now.target) step.new) }
     ensures err { OnErr result (step.new.work.table ≡ step.old.work.table) }
 {
-    let queue = step.table().target_of(instance.n).unwrap();
+    let instance = &waiting.instance;
     let did = did_at_take(step.table(), thread, instance);
     step.begin(2)?;
-    step.take_from(queue);
+    step.take_from(waiting.target);
     take_instance(step, thread, instance, did);
     step.complete_group_stops();
     Ok(Reply::Took {
@@ -133,6 +131,6 @@ pub fn take(step: &mut Step, actor: u32, tid: u32, n: u64) -> Result<Reply, Allo
 {
     let table = step.table();
     let thread = *table.find(tid).unwrap();
-    let instance = table.instance(n).unwrap();
-    take_due(step, &thread, &instance)
+    let waiting = *table.waiting(n).unwrap();
+    take_due(step, &thread, &waiting)
 }

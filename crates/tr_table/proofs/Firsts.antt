@@ -1,5 +1,6 @@
 -- The first of a line, among all that waits.
-use Rattle.std.proofs.Common.{◌≡◌, ◌∙◌, ◌+◌, ◌<◌, ◌==◌, ◌&&◌, ℕ, suc, not, List, [], ◌∷◌, Bool, true, false, Some, None, if◌then◌else◌, filter, map, slice_get, refl, sym, ap, arith}
+use Rattle.std.proofs.Common.{◌≡◌, ◌∙◌, ◌+◌, ◌<◌, ◌==◌, ◌&&◌, ℕ, suc, not, List, [], ◌∷◌, Bool, true, false, Option, Some, None, if◌then◌else◌, filter, map, slice_get, refl, sym, ap, arith}
+use Rattle.std.specs.Prelude.{option_map}
 use Rattle.std.proofs.lemmas.Bool.Decides.{nat_tests}
 use Rattle.tr_pending.specs.declared.instance.Instance.{Instance}
 use Rattle.tr_pending.specs.Waiting.{first_of, place_of}
@@ -56,6 +57,23 @@ module _ (q : Target) (s : ℕ) where
       go true false c h rest = next h ∙ (rest h ∙ sym (first_later s w.instance (queue_in q ws) c))
       go false true c h rest = next h ∙ rest h
       go false false c h rest = next h ∙ rest h
+
+  pub line_number : (ws : List Waiting) (l : Line) → line_of (filter (is_one q s) ws) ≡ Some l → option_map (λ i. i.n) (first_of s (queue_in q ws)) ≡ Some l.first
+  line_number [] l h = cc
+  line_number (w ∷ ws) l h = go (same_target q w.target) (w.instance.sig == s) refl h (line_number ws l)
+    where
+      G : List Waiting
+      G = filter (λ v. same_target q v.target) ws
+
+      number : Option Instance → Option ℕ
+      number = option_map (λ i. i.n)
+
+      go : (b c : Bool) → (w.instance.sig == s) ≡ c → line_of (if b && c then w ∷ filter (is_one q s) ws else filter (is_one q s) ws) ≡ Some l → (line_of (filter (is_one q s) ws) ≡ Some l → number (first_of s (queue_in q ws)) ≡ Some l.first)
+          → number (first_of s (map (λ v. v.instance) (if b then w ∷ G else G))) ≡ Some l.first
+      go true true c h rest = ap number (first_here s w.instance (queue_in q ws) c) ∙ ap Some (sym (line_first w (filter (is_one q s) ws) l h))
+      go true false c h rest = ap number (first_later s w.instance (queue_in q ws) c) ∙ rest h
+      go false true c h rest = rest h
+      go false false c h rest = rest h
 
   pub first_none : (ws : List Waiting) → line_of (filter (is_one q s) ws) ≡ None → first_of s (queue_in q ws) ≡ None
   first_none [] h = refl

@@ -1,5 +1,5 @@
 -- The lines and the queues of all that waits. A line is what waits of one signal for one target.
-use Rattle.std.specs.Prelude.{◌≡◌, ℕ, ◌+◌, Bool, ◌&&◌, ◌==◌, List, [], ◌∷◌, Option, Some, None, filter, if◌then◌else◌, length}
+use Rattle.std.specs.Prelude.{◌≡◌, ℕ, ◌+◌, Bool, ◌&&◌, ◌==◌, List, [], ◌∷◌, Option, Some, None, filter, if◌then◌else◌, length, slice_get, true}
 use Rattle.indexmap.specs.IndexMap.{IndexMap, get}
 use Rattle.tr_pending.specs.declared.instance.Instance.{Instance}
 use Rattle.tr_pending.specs.Waiting.{IsMask}
@@ -15,6 +15,13 @@ use Rattle.tr_table.specs.Queues.{is_one}
 -- of one target and one signal
 abbrev pub same_key : LineKey → LineKey → Bool
 same_key a b = same_target a.target b.target && a.signal == b.signal
+
+-- at this place of a map stands the key, or one that is equal to it
+pub record StandsAt {K V S : Type 0} (eq : K → K → Bool) (m : IndexMap K V S) (place : ℕ) (key : K) : Type 0 where
+  pub found : K
+  pub value : V
+  pub there : slice_get m.entries place ≡ Some (found, value)
+  pub same : eq key found ≡ true
 
 -- nothing, where nothing waits in the line
 abbrev pub unless_empty : Option Line → Option Line

@@ -1,15 +1,14 @@
 ghost use Rattle.std.specs.Prelude.{◌≡◌, ◌==◌, filter};
 ghost use Rattle.std.specs.List.{list_any};
-ghost use Rattle.tr_model.specs.Journals.{IsSorted};
 ghost use Rattle.tr_model.specs.Steps.{is_new};
 ghost use Rattle.tr_model.specs.Tables.{queue};
 ghost use Rattle.tr_model.specs.Takes.{choices_in, goes_before, unblocked};
-ghost use Rattle.tr_table.specs.Choices.{goes_first, is_choice, is_open, open_in, target_in};
-ghost use Rattle.tr_table.specs.Slots.{all_in, standing};
+ghost use Rattle.tr_table.specs.Choices.{goes_first, is_choice, is_open, open_in};
+ghost use Rattle.tr_table.specs.Slots.{standing};
 
 use crate::free_ids::is_new;
 use crate::picked::same_target;
-use crate::slots::{Slot, place_of};
+use crate::slots::Slot;
 use crate::table::Table;
 use tr_model::Target;
 use tr_pending::Instance;
@@ -18,13 +17,6 @@ use tr_sigset::SigSet;
 // What the model leaves open, tested at a table. No call here takes memory.
 
 impl Table {
-    /// The queue that the pending instance of a number waits in.
-    pub fn target_of(&self, n: u64) -> Option<Target>
-        ensures { result ≡ target_in self.now.table.waiting n }
-    {
-        target_of(&self.pending.slots, n)
-    }
-
     /// Whether a thread that blocks these signals may take the instance of a number from the target's queue: it waits
     /// there unblocked, and no other that does goes before it.
     pub fn may_take(&self, target: Target, blocked: SigSet, n: u64) -> bool
@@ -40,19 +32,6 @@ impl Table {
         ensures { result ≡ is_new self.now.table id }
     {
         is_new(&self.threads, &self.groups, id)
-    }
-}
-
-fn target_of(slots: &[Slot], n: u64) -> Option<Target>
-    requires { IsSorted (all_in slots.now) }
-    ensures { result ≡ target_in (standing slots.now) n }
-{
-    let place = place_of(slots, n)?;
-    let slot = &slots[place];
-    if slot.gone {
-        None
-    } else {
-        Some(slot.waiting.target)
     }
 }
 

@@ -1,4 +1,4 @@
-ghost use Rattle.std.specs.Prelude.{◌≡◌, ℕ, ◌+◌, ◌<◌, ◌≤◌, ◌^◌, ◌++◌, ◌∷◌, [], List, Some, false, filter, if◌then◌else◌, is_some, length, option_copied, true};
+ghost use Rattle.std.specs.Prelude.{◌≡◌, ℕ, ◌+◌, ◌<◌, ◌≤◌, ◌^◌, ◌++◌, ◌∷◌, [], IfSome, List, Some, false, filter, if◌then◌else◌, is_some, length, option_map, true};
 ghost use Rattle.indexmap.specs.IndexMap.{get, index_map_len, spare};
 ghost use Rattle.tr_model.specs.Journals.{IsSorted};
 ghost use Rattle.tr_model.specs.Tables.{same_target};
@@ -6,7 +6,7 @@ ghost use Rattle.tr_model.specs.declared.rows.Target.{Target};
 ghost use Rattle.tr_model.specs.declared.rows.Waiting.{Waiting};
 ghost use Rattle.tr_pending.specs.Waiting.{is_waiting};
 ghost use Rattle.tr_pending.specs.declared.instance.Instance.{Instance};
-ghost use Rattle.tr_table.specs.Lines.{AreLines, IsQueue, first_number, is_key, line_at, line_of, longer, queue_at, unless_empty};
+ghost use Rattle.tr_table.specs.Lines.{AreLines, IsQueue, StandsAt, first_number, is_key, line_at, line_of, longer, queue_at, same_key, unless_empty};
 ghost use Rattle.tr_table.specs.Queues.{is_one};
 ghost use Rattle.tr_table.specs.Slots.{line_in, standing};
 ghost use Rattle.tr_table.specs.declared.lines.Line.{Line};
@@ -44,71 +44,64 @@ pub(crate) struct Queue {
 
 const EMPTY: Line = Line { first: 0, count: 0 };
 
-/// The value of a key. The key that came last is looked at first.
+/// Where a key stands, and its value. The key that came last is looked at first.
 #[inline(always)]
-pub(crate) fn find<'a, K: Eq + Hash, V>(
-    map: &'a IndexMap<K, V, WordHashing>,
+pub(crate) fn find<K: Eq + Hash, V: Copy>(
+    map: &IndexMap<K, V, WordHashing>,
     key: &K,
-) -> Option<&'a V>
-    ensures { option_copied result ≡ get K.eq map.now key.now }
+) -> Option<(usize, V)>
+    ensures value { option_map (λ p. p.1) result ≡ get K.eq map.now key.now }
+    ensures place { IfSome result (λ p. StandsAt K.eq map.now p.0 key.now) }
 {
-    match map.get_index(map.len().saturating_sub(1)) {
-        Some((last, value)) if *last == *key => Some(value),
+    let last = map.len().saturating_sub(1);
+    match map.get_index(last) {
+        Some((found, value)) if *key == *found => Some((last, *value)),
         _ => find_other(map, key),
     }
 }
 
 #[inline(never)]
-fn find_other<'a, K: Eq + Hash, V>(map: &'a IndexMap<K, V, WordHashing>, key: &K) -> Option<&'a V>
-    ensures { option_copied result ≡ get K.eq map.now key.now }
-{
-    map.get(key)
-}
-
-/// Writes the value of a key that the map has. The key that came last is looked at first.
-#[inline(always)]
-fn rewrite<K: Eq + Hash + Drop, V: Drop>(map: &mut IndexMap<K, V, WordHashing>, key: &K, value: V)
-    requires { is_some (get K.eq map.old key.now) ≡ true }
-    ensures get { (k : K)
-        → get K.eq map.new k ≡ (if K.eq key.now k then Some value else get K.eq map.old k) }
-    ensures spare { spare map.new ≡ spare map.old }
-    ensures len { index_map_len map.new ≡ index_map_len map.old }
-{
-    let last = map.len().saturating_sub(1);
-    match map.get_index(last) {
-        Some((found, _)) if *found == *key => {
-            if let Some(kept) = map.get_index_mut(last) {
-                *kept = value;
-            }
-        }
-        _ => rewrite_other(map, key, value),
-    }
-}
-
-#[inline(never)]
-fn rewrite_other<K: Eq + Hash + Drop, V: Drop>(
-    map: &mut IndexMap<K, V, WordHashing>,
+fn find_other<K: Eq + Hash, V: Copy>(
+    map: &IndexMap<K, V, WordHashing>,
     key: &K,
+) -> Option<(usize, V)>
+    ensures value { option_map (λ p. p.1) result ≡ get K.eq map.now key.now }
+    ensures place { IfSome result (λ p. StandsAt K.eq map.now p.0 key.now) }
+{
+    let (place, _, value) = map.get_full(key)?;
+    Some((place, *value))
+}
+
+/// Writes the value of the key at a place.
+#[inline(always)]
+fn rewrite<K: Eq + Hash + Drop, V: Drop>(
+    map: &mut IndexMap<K, V, WordHashing>,
+    place: usize,
     value: V,
 )
-    requires { is_some (get K.eq map.old key.now) ≡ true }
-    ensures get { (k : K)
-        → get K.eq map.new k ≡ (if K.eq key.now k then Some value else get K.eq map.old k) }
+    ensures get { (key k : K)
+        → StandsAt K.eq map.old place key
+        → get K.eq map.new k ≡ (if K.eq key k then Some value else get K.eq map.old k) }
     ensures spare { spare map.new ≡ spare map.old }
     ensures len { index_map_len map.new ≡ index_map_len map.old }
 {
-    if let Some(kept) = map.get_mut(key) {
+    if let Some(kept) = map.get_index_mut(place) {
         *kept = value;
     }
 }
 
-/// What is kept of a line, where something waits in it.
+/// Where a line stands, and what is kept of it, where something waits in it.
 #[inline(always)]
-pub(crate) fn find_line(lines: &IndexMap<LineKey, Line, WordHashing>, key: &LineKey) -> Option<Line>
-    ensures { result ≡ line_at lines.now key.now.target key.now.signal }
+pub(crate) fn find_line(
+    lines: &IndexMap<LineKey, Line, WordHashing>,
+    key: &LineKey,
+) -> Option<(usize, Line)>
+    ensures line { option_map (λ p. p.1) result
+        ≡ line_at lines.now key.now.target key.now.signal }
+    ensures place { IfSome result (λ p. StandsAt same_key lines.now p.0 key.now) }
 {
     match find(lines, key) {
-        Some(line) if line.count != 0 => Some(*line),
+        Some((place, line)) if line.count != 0 => Some((place, line)),
         _ => None,
     }
 }
@@ -123,6 +116,7 @@ fn key_of(waiting: &Waiting) -> LineKey
 }
 
 /// Puts an instance last in its line.
+#[inline(always)]
 pub(crate) fn enter_line(lines: &mut IndexMap<LineKey, Line, WordHashing>, waiting: &Waiting)
     requires spare { 0 < spare lines.old }
     requires few { (l : Line)
@@ -141,8 +135,8 @@ pub(crate) fn enter_line(lines: &mut IndexMap<LineKey, Line, WordHashing>, waiti
     ensures len { index_map_len lines.new ≤ index_map_len lines.old + 1 }
 {
     let key = key_of(waiting);
-    match find(lines, &key).copied() {
-        Some(line) => rewrite(lines, &key, longer(&line, waiting.instance.n)),
+    match find(lines, &key) {
+        Some((place, line)) => rewrite(lines, place, longer(&line, waiting.instance.n)),
         None => {
             let line = Line {
                 first: waiting.instance.n,
@@ -165,6 +159,7 @@ fn longer(line: &Line, n: u64) -> Line
 }
 
 /// Puts an instance last in its queue.
+#[inline(always)]
 pub(crate) fn enter_queue(queues: &mut IndexMap<Target, Queue, WordHashing>, waiting: &Waiting)
     requires spare { 0 < spare queues.old }
     requires few { (x : Queue)
@@ -181,14 +176,15 @@ pub(crate) fn enter_queue(queues: &mut IndexMap<Target, Queue, WordHashing>, wai
     ensures places { index_map_len queues.old + spare queues.old
         ≤ index_map_len queues.new + spare queues.new }
 {
-    match find(queues, &waiting.target).copied() {
-        Some(queue) => rewrite(queues, &waiting.target, wider(&queue, &waiting.instance)),
+    let target = waiting.target;
+    match find(queues, &target) {
+        Some((place, queue)) => rewrite(queues, place, wider(&queue, &waiting.instance)),
         None => {
             let queue = Queue {
                 mask: SigSet::empty().with(waiting.instance.sig),
                 count: 1,
             };
-            let _none = queues.insert(waiting.target, queue).unwrap();
+            let _none = queues.insert(target, queue).unwrap();
         }
     }
 }
@@ -261,11 +257,11 @@ pub(crate) fn leave_line(
         ≤ index_map_len lines.new + spare lines.new }
 {
     let key = key_of(waiting);
-    let Some(line) = find_line(lines, &key) else {
+    let Some((place, line)) = find_line(lines, &key) else {
         return false;
     };
     let left = left_of(&line, waiting, after);
-    rewrite(lines, &key, left);
+    rewrite(lines, place, left);
     left.count != 0
 }
 
@@ -288,9 +284,9 @@ pub(crate) fn leave_queue(
     ensures places { index_map_len queues.old + spare queues.old
         ≤ index_map_len queues.new + spare queues.new }
 {
-    if let Some(queue) = find(queues, &waiting.target).copied() {
+    if let Some((place, queue)) = find(queues, &waiting.target) {
         let left = narrower(&queue, waiting.instance.sig, stays);
-        rewrite(queues, &waiting.target, left);
+        rewrite(queues, place, left);
     }
 }
 

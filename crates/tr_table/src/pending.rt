@@ -1,12 +1,13 @@
-ghost use Rattle.std.specs.Prelude.{◌≡◌, ◌==◌, ◌+◌, ◌*◌, ◌<◌, ◌≤◌, ◌++◌, ◌∷◌, [], OnErr, OnOk, false, filter, get_or, length, map, not, option_copied, set, vec_capacity, vec_len};
+ghost use Rattle.std.specs.Prelude.{◌≡◌, ◌==◌, ◌+◌, ◌*◌, ◌<◌, ◌≤◌, ◌++◌, ◌∷◌, [], OnErr, OnOk, false, filter, get_or, length, map, not, option_map, set, vec_capacity, vec_len};
 ghost use Rattle.indexmap.specs.IndexMap.{index_map_len};
 ghost use Rattle.std.specs.List.{list_any};
 ghost use Rattle.tr_model.specs.declared.fates.Fate.TheVariants.{Flushed};
 ghost use Rattle.tr_model.specs.declared.rows.Target.TheVariants as target;
 ghost use Rattle.tr_model.specs.Moves.{ending_of, instance_in, retargeted, without_instance};
 ghost use Rattle.tr_pending.specs.Waiting.{IsMask, best_of, first_of, is_waiting};
+ghost use Rattle.tr_table.specs.Choices.{target_in};
 ghost use Rattle.tr_table.specs.Changes.{holds, is_flushed, is_picked, queue_in};
-ghost use Rattle.tr_table.specs.Lines.{IsQueue};
+ghost use Rattle.tr_table.specs.Lines.{IsQueue, line_at};
 ghost use Rattle.tr_table.specs.Queues.{AllBelow, count_own, own_share, without_one};
 ghost use Rattle.tr_table.specs.Slots.{IsPending, emptied, standing};
 ghost use Rattle.tr_table.specs.declared.slots.Slot.{Slot};
@@ -113,14 +114,15 @@ impl Pending {
 
     /// What is kept of the target's queue.
     #[inline(always)]
-    fn queue(&self, target: Target) -> Option<&Queue>
+    fn queue(&self, target: Target) -> Option<Queue>
         requires { IsPending self.now }
-        ensures { IsQueue (option_copied result) (queue_in target (standing self.now.slots.items)) }
+        ensures { IsQueue result (queue_in target (standing self.now.slots.items)) }
     {
         if !self.may_wait(target) {
             return None;
         }
-        find(&self.queues, &target)
+        let (_, queue) = find(&self.queues, &target)?;
+        Some(queue)
     }
 
     /// How many instances wait for the target.
@@ -155,31 +157,40 @@ impl Pending {
         self.mask(target).has(signal)
     }
 
-    /// The instance of a number.
-    pub(crate) fn instance(&self, n: u64) -> Option<Instance>
+    /// What waits with a number.
+    #[inline(always)]
+    pub(crate) fn waiting(&self, n: u64) -> Option<&Waiting>
         requires { IsPending self.now }
-        ensures { result ≡ instance_in (standing self.now.slots.items) n }
+        ensures instance { option_map (λ w. w.now.instance) result
+            ≡ instance_in (standing self.now.slots.items) n }
+        ensures queue { option_map (λ w. w.now.target) result
+            ≡ target_in (standing self.now.slots.items) n }
     {
         let place = place_of(&self.slots, n)?;
         let slot = &self.slots[place];
-        if slot.gone {
-            None
-        } else {
-            Some(slot.waiting.instance)
-        }
+        if slot.gone { None } else { Some(&slot.waiting) }
     }
 
-    /// The first instance of a signal that waits for the target.
-    pub(crate) fn first(&self, target: Target, signal: Signal) -> Option<Instance>
-        requires { IsPending self.now }
-        ensures { result ≡ first_of signal (queue_in target (standing self.now.slots.items)) }
+    /// The line of the instances of a signal that wait for the target, where there are any.
+    #[inline(always)]
+    fn line(&self, target: Target, signal: Signal) -> Option<Line>
+        ensures { result ≡ line_at self.now.lines target signal }
     {
         let key = LineKey {
             target,
             signal: signal.number(),
         };
-        let line = find_line(&self.lines, &key)?;
-        self.instance(line.first)
+        let (_, line) = find_line(&self.lines, &key)?;
+        Some(line)
+    }
+
+    /// The first instance of a signal that waits for the target.
+    fn first(&self, target: Target, signal: Signal) -> Option<Instance>
+        requires { IsPending self.now }
+        ensures { result ≡ first_of signal (queue_in target (standing self.now.slots.items)) }
+    {
+        let line = self.line(target, signal)?;
+        Some(self.waiting(line.first)?.instance)
     }
 
     /// The first instance of the least signal number that isn't blocked, of those that wait for the target.
@@ -189,6 +200,20 @@ impl Pending {
     {
         match self.mask(target).minus(blocked).least() {
             Some(signal) => self.first(target, signal),
+            None => None,
+        }
+    }
+
+    /// Its number.
+    #[inline(always)]
+    pub(crate) fn best_number(&self, target: Target, blocked: SigSet) -> Option<u64>
+        requires { IsPending self.now }
+        ensures { result
+            ≡ option_map (λ i. i.n)
+            (best_of blocked (queue_in target (standing self.now.slots.items))) }
+    {
+        match self.mask(target).minus(blocked).least() {
+            Some(signal) => Some(self.line(target, signal)?.first),
             None => None,
         }
     }
@@ -261,12 +286,8 @@ impl Pending {
             ≡ without_one target signal (standing self.old.slots.items) }
         ensures room { self.new.room ≡ self.old.room }
     {
-        let key = LineKey {
-            target,
-            signal: signal.number(),
-        };
-        let first = find_line(&self.lines, &key)?.first;
-        self.remove(first)
+        let line = self.line(target, signal)?;
+        self.remove(line.first)
     }
 
     /// Drops the empty lines and queues, where they have become many.

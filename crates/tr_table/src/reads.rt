@@ -1,4 +1,4 @@
-ghost use Rattle.std.specs.Prelude.{◌≡◌, ◌<◌, ◌&&◌, length, map, option_copied, slice_get, slice_index};
+ghost use Rattle.std.specs.Prelude.{◌≡◌, ◌<◌, ◌&&◌, length, map, option_copied, option_map, slice_get, slice_index};
 ghost use Rattle.std.specs.List.{list_any};
 ghost use Rattle.tr_sigset.specs.Sets.{has};
 ghost use Rattle.tr_tracee.specs.Lives.{is_live};
@@ -7,12 +7,13 @@ ghost use Rattle.tr_model.specs.Journals.{IsSorted};
 ghost use Rattle.tr_model.specs.Moves.{instance_in};
 ghost use Rattle.tr_model.specs.Tables.{action_of, all_dead, end_of, group_of, has_live, has_stop_mark, has_traced, members, others_dead, owner, queue, stop_of};
 ghost use Rattle.tr_table.specs.Changes.{tgids};
+ghost use Rattle.tr_table.specs.Choices.{target_in};
 
 use crate::groups::{action_in, end_in, stop_in};
 use crate::table::Table;
 use crate::threads::owner_of;
 use tr_group::{Action, GroupStop};
-use tr_model::Target;
+use tr_model::{Target, Waiting};
 use tr_pending::Instance;
 use tr_sigset::{SigSet, Signal};
 use tr_tracee::{End, Thread};
@@ -127,12 +128,24 @@ impl Table {
         self.pending.best(target, blocked)
     }
 
-    /// The pending instance of a number.
-    pub fn instance(&self, n: u64) -> Option<Instance>
-        ensures found { result ≡ instance_in self.now.table.waiting n }
+    /// The number of that instance.
+    #[inline(always)]
+    pub fn best_number(&self, target: Target, blocked: SigSet) -> Option<u64>
+        ensures { result ≡ option_map (λ i. i.n) (best_of blocked (queue self.now.table target)) }
+    {
+        self.pending.best_number(target, blocked)
+    }
+
+    /// The pending instance of a number, with the queue that it waits in.
+    #[inline(always)]
+    pub fn waiting(&self, n: u64) -> Option<&Waiting>
+        ensures instance { option_map (λ w. w.now.instance) result
+            ≡ instance_in self.now.table.waiting n }
+        ensures queue { option_map (λ w. w.now.target) result
+            ≡ target_in self.now.table.waiting n }
         ensures sorted { IsSorted self.now.table.waiting }
     {
-        self.pending.instance(n)
+        self.pending.waiting(n)
     }
 
     /// How many groups there are.

@@ -2,6 +2,7 @@ ghost use Rattle.std.specs.Prelude.{◌≡◌, ℕ, ◌<◌, ◌≤◌, ◌==◌
 ghost use Rattle.tr_model.specs.Journals.{occurs};
 ghost use Rattle.tr_table.specs.Rosters.{CountAlike, Counts, HasRow, HaveSameWords, IsSmall, no_one, place_in, rewritten, roster_in, roster_of, unless_empty, with_counts, with_last, with_words, without};
 ghost use Rattle.tr_table.specs.Rows.{AreWords};
+ghost use Rattle.tr_tracee.specs.Lives.{is_live};
 ghost use Rattle.tr_tracee.specs.Threads.{in_group};
 
 use crate::counts::recounted;
@@ -211,25 +212,24 @@ impl Roster {
     }
 }
 
-/// Whether two records of a thread count as the same.
+/// Whether two records of a thread count as the same, where both are live or neither is.
 #[inline(always)]
 fn count_alike(before: &Thread, after: &Thread) -> bool
+    requires { is_live before.now.life ≡ is_live after.now.life }
     ensures { result ≡ true → CountAlike before.now after.now }
 {
     before.stop_mark == after.stop_mark
         && before.is_traced() == after.is_traced()
-        && before.life.is_live() == after.life.is_live()
         && before.life.is_dead() == after.life.is_dead()
 }
 
-/// Whether two records of a thread have the same words.
+/// Whether two records of a thread have the same words, where both are live or neither is.
 #[inline(always)]
 fn have_same_words(before: &Thread, after: &Thread) -> bool
+    requires { is_live before.now.life ≡ is_live after.now.life }
     ensures { result ≡ true → HaveSameWords before.now after.now }
 {
-    before.mask.bits() == after.mask.bits()
-        && before.life.is_live() == after.life.is_live()
-        && before.is_ready_to_take() == after.is_ready_to_take()
+    before.mask.bits() == after.mask.bits() && before.is_ready_to_take() == after.is_ready_to_take()
 }
 
 /// Makes a place for one more roster; where there is none, for no more, since a roster is large and many tables have one group.
@@ -426,8 +426,9 @@ impl Rosters {
             ≡ (if before.now.group == g then rewritten before.now after.now
             (roster_in self.old g) else roster_in self.old g) }
     {
-        let same_words = have_same_words(before, after);
-        let counts_alike = count_alike(before, after);
+        let live_alike = before.life.is_live() == after.life.is_live();
+        let same_words = live_alike && have_same_words(before, after);
+        let counts_alike = live_alike && count_alike(before, after);
         if same_words && counts_alike {
             return;
         }

@@ -84,6 +84,7 @@ fn rank(ids: &[u32], index: &Index, place: usize) -> usize
 }
 
 /// The id at a place comes to those that are listed, or goes, or neither.
+#[inline(always)]
 fn relist(ids: &mut Vec<u32>, index: &Index, place: usize, id: u32, was: bool, is: bool)
     requires parted { IsPartitionedBy (is_before index.now place) ids.old.items }
     requires there { length (filter (is_before index.now place) ids.old.items) + bool_to_nat was

@@ -1,5 +1,6 @@
 use Rattle.std.proofs.Common.{◌≡◌, ◌∙◌, Some, None, ap, is_some, sym, true}
 use Rattle.std.specs.List.{find}
+use Rattle.tr_model.specs.Preferred.{best_for}
 use Rattle.tr_model.specs.Tables.{group_of, members}
 use Rattle.tr_model.specs.Takes.{can_take}
 use Rattle.tr_signals.proofs.TakingAny.{answer_in, check_is}
@@ -12,7 +13,7 @@ returns-in-Some-first_taker c = λ a.
     let there : is_some (group_of T g) ≡ true = sym c.rows.ensures.there ∙ ap is_some c.in-Some.is in
     let first : find (can_take T) (members T g) ≡ Some c.in-Some-first_taker.thread = sym c.first_taker.ensures ∙ c.in-Some-first_taker.is in
     let h = check_is T a g ∙ (ap (λ b. answer_in T b (find (can_take T) (members T g))) there ∙ ap (answer_in T true) first) in
-    rw (c.taking_by.ensures, c.best_for.ensures) (sym h)
+    rw (c.taking_by.ensures (best_for T c.in-Some-first_taker.thread) c.best_number_for.ensures) (sym h)
 
 pub returns-in-None : goal.returns-in-None
 returns-in-None c = λ a.
