@@ -8,10 +8,12 @@ use Rattle.tr_model.specs.declared.events.Event.TheVariants as event
 use Rattle.tr_model.specs.declared.fates.Fate.{Fate}
 use Rattle.tr_model.specs.declared.replies.Reply.{Reply}
 use Rattle.tr_model.specs.declared.replies.Reply.TheVariants as reply
+use Rattle.tr_model.specs.declared.rows.Target.{Target}
+use Rattle.tr_model.specs.declared.rows.Target.TheVariants as target
 use Rattle.tr_model.specs.Steps.{number}
-use Rattle.tr_kernel.specs.declared.note_list.KeptFact.{KeptFact}
-use Rattle.tr_kernel.specs.declared.note_list.KeptFact.TheVariants as fact
 use Rattle.tr_kernel.specs.declared.note_list.KeptNote.{KeptNote}
+use Rattle.tr_kernel.specs.declared.note_list.Kind.{Kind}
+use Rattle.tr_kernel.specs.declared.note_list.Kind.TheVariants as kind
 use Rattle.tr_kernel.specs.declared.notes.EntryFact.{EntryFact}
 use Rattle.tr_kernel.specs.declared.notes.EntryFact.TheVariants.{Exec, Nothing, Stop, Take}
 use Rattle.tr_kernel.specs.declared.notes.Note.{Note}
@@ -80,16 +82,24 @@ pub record NotesOfEntries : Type 0 where
 abbrev pub blank : ℕ → Note
 blank deaths = record { fact = Nothing; killed = false; deaths = deaths }
 
+-- a take from this queue, of which this is kept
+abbrev pub take_from : Target → KeptNote → EntryFact
+take_from q k = Take (record { number = k.number; signal = signal_of k.signal; queue = q; transfers = k.second })
+
 -- what an entry is to the laws, of which this is kept
-abbrev pub fact_of : KeptFact → EntryFact
-fact_of fact.Nothing = Nothing
-fact_of (fact.Stop stopped) = Stop stopped
-fact_of (fact.Take signal queue transfers number) = Take (record { number = number; signal = signal_of signal; queue = queue; transfers = transfers })
-fact_of (fact.Exec group) = Exec group
+abbrev pub fact_by : Kind → KeptNote → EntryFact
+fact_by kind.Nothing k = Nothing
+fact_by kind.Stop k = Stop (record { thread = k.id; group = k.second })
+fact_by kind.TakeForThread k = take_from (target.Thread k.id) k
+fact_by kind.TakeForGroup k = take_from (target.Group k.id) k
+fact_by kind.Exec k = Exec k.id
+
+abbrev pub kept_fact : KeptNote → EntryFact
+kept_fact k = fact_by k.kind k
 
 -- the note that is kept
 abbrev pub noted : KeptNote → Note
-noted k = record { fact = fact_of k.fact; killed = k.killed; deaths = k.deaths }
+noted k = record { fact = kept_fact k; killed = k.killed; deaths = k.deaths }
 
 -- the notes of so many entries from a place on, before which so many deaths had begun: those that are kept, else blank ones
 abbrev pub spread : List KeptNote → ℕ → ℕ → ℕ → List Note

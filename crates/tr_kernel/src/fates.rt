@@ -1,4 +1,4 @@
-ghost use Rattle.std.specs.Prelude.{◌≡◌, ◌↔◌, ◌++◌, ◌+◌, ◌≤◌, ◌<◌, ◌-◌, ◌^◌, ◌∷◌, [], IsTrue, None, OnErr, OnOk, length, replicate, slice_get, vec_len, vec_capacity};
+ghost use Rattle.std.specs.Prelude.{◌≡◌, ◌↔◌, ◌++◌, ◌+◌, ◌≤◌, ◌<◌, ◌-◌, ◌^◌, [], IsTrue, None, OnOk, length, replicate, slice_get, vec_len, vec_capacity};
 ghost use Rattle.tr_model.specs.declared.fates.Fate.TheVariants.{Pending};
 ghost use Rattle.tr_model.specs.Journals.{same_fate};
 ghost use Rattle.tr_kernel.specs.Private.{counted_under, ending_noted, endings_noted, tally};

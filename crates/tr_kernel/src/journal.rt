@@ -1,4 +1,4 @@
-ghost use Rattle.std.specs.Prelude.{◌≡◌, ◌↔◌, ◌++◌, ◌+◌, ◌-◌, ◌<◌, ◌≤◌, ◌∷◌, [], IsTrue, None, OnErr, OnOk, length, nat_le, slice_get, slice_index_or};
+ghost use Rattle.std.specs.Prelude.{◌≡◌, ◌↔◌, ◌++◌, ◌+◌, ◌-◌, ◌<◌, ◌≤◌, ◌∷◌, [], IsTrue, None, OnOk, length, nat_le, slice_get, slice_index_or};
 ghost use Rattle.tr_kernel.specs.Kept.{IsToldBy};
 
 use crate::lists::{append, at_position};

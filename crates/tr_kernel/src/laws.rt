@@ -2,7 +2,7 @@
 //! count from 1; a position without an entry is none of what a law asks for. No law takes memory, and none but
 //! `restart_between` looks at more than two entries.
 
-ghost use Rattle.std.specs.Prelude.{◌≡◌, ◌≢◌, ◌↔◌, ◌≤◌, ◌<◌, IfSome, IsSome, IsTrue};
+ghost use Rattle.std.specs.Prelude.{◌≢◌, ◌↔◌, ◌<◌, IfSome, IsSome, IsTrue};
 ghost use Rattle.tr_table.specs.Starts.{table_of};
 ghost use Rattle.tr_kernel.specs.Laws.{KilledBy, OnlyDyingAt, RestartBetween, TakenInOrder, TwoStops, TwoTakes, WaitsAt, consumed_at};
 ghost use Rattle.tr_kernel.specs.Private.{SameQueue};

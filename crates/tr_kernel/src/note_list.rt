@@ -1,5 +1,6 @@
-ghost use Rattle.std.specs.Prelude.{◌≡◌, ◌↔◌, ◌++◌, ◌+◌, ◌-◌, ◌<◌, ◌≤◌, ◌∷◌, ◌^◌, [], IsTrue, None, OnErr, OnOk, false, length, nat_le, slice_get, true};
-ghost use Rattle.tr_kernel.specs.Kept.{AreWithin, IsUpto, blank, fact_of, is_blank, note_upto, noted};
+ghost use Rattle.std.specs.Prelude.{◌≡◌, ◌↔◌, ◌++◌, ◌+◌, ◌-◌, ◌<◌, ◌≤◌, ◌∷◌, ◌^◌, [], IsTrue, None, OnOk, false, length, nat_le, slice_get, true};
+ghost use Rattle.tr_kernel.specs.Kept.{AreWithin, IsUpto, blank, is_blank, kept_fact, note_upto, noted, take_from};
+ghost use Rattle.tr_kernel.specs.declared.notes.EntryFact.TheVariants.{Nothing};
 
 use crate::notes::{EntryFact, Note, Stopped, TakenFrom};
 use crate::replies::signal_of;
@@ -7,26 +8,30 @@ use std::alloc::{AllocError, Global};
 use std::marker::Model;
 use tr_model::Target;
 
-/// What is kept of what an entry is to the laws, in 24 bytes: a signal as its number.
+/// Of which case is what an entry is to the laws. A take is told apart by whose queue it took from.
 #[derive(Clone, Copy)]
-enum KeptFact {
+enum Kind {
     Nothing,
-    Stop(Stopped),
-    Take {
-        signal: u8,
-        queue: Target,
-        transfers: u32,
-        number: u64,
-    },
-    Exec(u32),
+    Stop,
+    TakeForThread,
+    TakeForGroup,
+    Exec,
 }
 
-/// A note, and the place of its entry, from 0.
+/// A note, in 32 bytes: a signal stands as its number.
 #[derive(Clone, Copy)]
 pub(crate) struct KeptNote {
-    fact: KeptFact,
+    /// The number of what a take took.
+    number: u64,
     deaths: u64,
+    /// The place of its entry, from 0.
     place: u32,
+    /// The thread that stopped, the thread or the group of the queue, or the group of an execve(2).
+    id: u32,
+    /// The group of the thread that stopped, or how often the id of the queue had passed on.
+    second: u32,
+    kind: Kind,
+    signal: u8,
     killed: bool,
 }
 
@@ -53,55 +58,83 @@ impl Model for NoteList {
     ghost invariant = { λ l. AreWithin 0 l.len l.kept.items × (l.deaths ≡ deaths_of 0 l.kept.items) };
 }
 
-fn kept_fact(fact: EntryFact) -> KeptFact
-    ensures { fact_of result ≡ fact }
-{
-    match fact {
-        EntryFact::Nothing => KeptFact::Nothing,
-        EntryFact::Stop(stopped) => KeptFact::Stop(stopped),
-        EntryFact::Take(taken) => KeptFact::Take {
-            signal: taken.signal.number(),
-            queue: taken.queue,
-            transfers: taken.transfers,
-            number: taken.number,
-        },
-        EntryFact::Exec(group) => KeptFact::Exec(group),
-    }
-}
-
-impl KeptFact {
-    fn fact(self) -> EntryFact
-        ensures { result ≡ fact_of self }
+impl KeptNote {
+    /// The note of an entry that is nothing to the laws.
+    fn blank(place: u32, note: &Note) -> KeptNote
+        ensures place { result.place ≡ place }
+        ensures note { noted result ≡ record note.now { fact = Nothing } }
     {
-        match self {
-            KeptFact::Nothing => EntryFact::Nothing,
-            KeptFact::Stop(stopped) => EntryFact::Stop(stopped),
-            KeptFact::Take {
-                signal,
-                queue,
-                transfers,
-                number,
-            } => EntryFact::Take(TakenFrom {
-                number,
-                signal: signal_of(signal),
-                queue,
-                transfers,
-            }),
-            KeptFact::Exec(group) => EntryFact::Exec(group),
+        KeptNote {
+            number: 0,
+            deaths: note.deaths,
+            place,
+            id: 0,
+            second: 0,
+            kind: Kind::Nothing,
+            signal: 0,
+            killed: note.killed,
         }
     }
-}
 
-impl KeptNote {
     fn new(place: u32, note: &Note) -> KeptNote
         ensures place { result.place ≡ place }
         ensures note { noted result ≡ note.now }
     {
-        KeptNote {
-            fact: kept_fact(note.fact),
-            deaths: note.deaths,
-            place,
-            killed: note.killed,
+        let blank = KeptNote::blank(place, note);
+        match note.fact {
+            EntryFact::Nothing => blank,
+            EntryFact::Stop(Stopped { thread, group }) => KeptNote {
+                kind: Kind::Stop,
+                id: thread,
+                second: group,
+                ..blank
+            },
+            EntryFact::Take(taken) => {
+                let (kind, id) = match taken.queue {
+                    Target::Thread(id) => (Kind::TakeForThread, id),
+                    Target::Group(id) => (Kind::TakeForGroup, id),
+                };
+                KeptNote {
+                    kind,
+                    number: taken.number,
+                    id,
+                    second: taken.transfers,
+                    signal: taken.signal.number(),
+                    ..blank
+                }
+            }
+            EntryFact::Exec(group) => KeptNote {
+                kind: Kind::Exec,
+                id: group,
+                ..blank
+            },
+        }
+    }
+
+    /// What the take that it is of is to the laws, if it took from this queue.
+    fn take_from(&self, queue: Target) -> EntryFact
+        ensures { result ≡ take_from queue self.now }
+    {
+        EntryFact::Take(TakenFrom {
+            number: self.number,
+            signal: signal_of(self.signal),
+            queue,
+            transfers: self.second,
+        })
+    }
+
+    fn fact(&self) -> EntryFact
+        ensures { result ≡ kept_fact self.now }
+    {
+        match self.kind {
+            Kind::Nothing => EntryFact::Nothing,
+            Kind::Stop => EntryFact::Stop(Stopped {
+                thread: self.id,
+                group: self.second,
+            }),
+            Kind::TakeForThread => self.take_from(Target::Thread(self.id)),
+            Kind::TakeForGroup => self.take_from(Target::Group(self.id)),
+            Kind::Exec => EntryFact::Exec(self.id),
         }
     }
 
@@ -109,7 +142,7 @@ impl KeptNote {
         ensures { result ≡ noted self.now }
     {
         Note {
-            fact: self.fact.fact(),
+            fact: self.fact(),
             killed: self.killed,
             deaths: self.deaths,
         }

@@ -1,5 +1,5 @@
-ghost use Rattle.std.specs.Prelude.{◌≡◌, ◌↔◌, ◌≤◌, ◌<◌, ◌+◌, ◌++◌, ◌∷◌, ◌^◌, [], ℕ, IsTrue, false, length, not, option_copied, slice_get, vec_len, vec_capacity, OnOk};
-ghost use Rattle.tr_kernel.specs.Notes.{exec_fact, is_some_group, is_stop_status, shows_stop, stop_fact, times};
+ghost use Rattle.std.specs.Prelude.{◌≡◌, ◌↔◌, ◌≤◌, ◌<◌, ◌+◌, ◌++◌, ◌∷◌, ◌^◌, [], ℕ, IsTrue, false, length, option_copied, vec_len, vec_capacity, OnOk};
+ghost use Rattle.tr_kernel.specs.Notes.{exec_fact, is_stop_status, shows_stop, stop_fact, times};
 ghost use Rattle.tr_kernel.specs.Private.{AreTransferred, killed_in, fact_after, fact_before, fact_in, note_with, shown, transfers_in};
 
 use crate::lists::append;

@@ -1,4 +1,4 @@
-ghost use Rattle.std.specs.Prelude.{◌≡◌, ◌*◌, ◌+◌, ◌^◌};
+ghost use Rattle.std.specs.Prelude.{◌≡◌, ◌*◌, ◌+◌};
 ghost use Rattle.tr_kernel.specs.Kept.{IsToldBy, signal_of, taker, told};
 ghost use Rattle.tr_model.specs.declared.events.Entry.{Entry};
 ghost use Rattle.tr_model.specs.Steps.{number};

@@ -1,4 +1,4 @@
-ghost use Rattle.std.specs.Prelude.{◌≡◌, ◌≤◌, ◌<◌, ◌-◌, ◌+◌, ◌==◌, ◌&&◌, ◌||◌, ℕ, None, true, false, not, length, take, drop, slice_get, IfSome};
+ghost use Rattle.std.specs.Prelude.{◌≡◌, ◌≤◌, ◌<◌, ◌-◌, ◌==◌, ◌&&◌, ◌||◌, ℕ, None, true, false, length, take, drop, IfSome};
 ghost use Rattle.std.specs.List.{list_any};
 ghost use Rattle.tr_kernel.specs.Private.{AreOrdered, deaths_in, deaths_to, is_exec_in, is_restart, restarts_at};
 

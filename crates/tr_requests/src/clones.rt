@@ -1,7 +1,7 @@
 //! How a thread makes a thread of its group: clone(2) with `CLONE_THREAD`, and "PTRACE_EVENT_CLONE" of ptrace(2).
 
 ghost use Rattle.std.specs.Prelude.{◌≡◌, ◌≤◌, ℕ, IfOk, OnErr, not};
-ghost use Rattle.tr_tracee.specs.Threads.{options_of, seized};
+ghost use Rattle.tr_tracee.specs.Threads.{options_of};
 ghost use Rattle.tr_model.specs.Compare.{Permits};
 ghost use Rattle.tr_model.specs.declared.events.Event.TheVariants.{CloneThread};
 ghost use Rattle.tr_model.specs.Causes.{at_limit};

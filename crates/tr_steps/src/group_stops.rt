@@ -1,6 +1,6 @@
 //! Group-stops: "Group-stop" of ptrace(2).
 
-ghost use Rattle.std.specs.Prelude.{◌≡◌, ◌+◌, ◌≤◌, not, ◌&&◌, length};
+ghost use Rattle.std.specs.Prelude.{◌≡◌, ◌≤◌, not, ◌&&◌, length};
 ghost use Rattle.tr_wait.specs.declared.status.Status.TheVariants as status;
 ghost use Rattle.tr_group.specs.GroupStops.{is_complete, is_stopping};
 ghost use Rattle.tr_model.specs.GroupStops.{complete_group_stop, complete_group_stops, complete_stop, continue_all, ended_stop, initiate, note_stop};

@@ -1,7 +1,6 @@
 //! The small moves of a step, each the model's move of the same name. None takes memory.
 
 ghost use Rattle.std.specs.Prelude.{◌≡◌, ◌≤◌, ◌<◌, ◌+◌, ◌++◌, ◌==◌, None, OnErr, OnOk, Some, false, is_some, true, length, vec_len, vec_capacity};
-ghost use Rattle.std.specs.Option.{option_to_list};
 ghost use Rattle.tr_model.specs.declared.fates.Fate.TheVariants.{Flushed};
 ghost use Rattle.tr_model.specs.Moves.{accept_as, added, alter, become, drop_empty, end_waiting, ended_hold, enqueue, enter, note, only_group, pulled, regroup, remove_dead, report_death, take_place, tell_dying, tell_killed};
 ghost use Rattle.tr_model.specs.Restarts.{listen, resume};
