@@ -1,13 +1,19 @@
 use tr_kernel::Kernel;
+use tr_model::Same;
 use tr_table::Table;
 
 /// Whether two kernels have the same journal, replies, fates, totals and table, as far as their readers tell.
 pub fn are_alike(one: &Kernel, other: &Kernel) -> bool {
-    one.journal() == other.journal()
+    have_same_entries(one, other)
         && one.totals() == other.totals()
         && have_same_replies(one, other)
         && have_same_fates(one, other)
         && are_tables_alike(one.table(), other.table())
+}
+
+fn have_same_entries(one: &Kernel, other: &Kernel) -> bool {
+    let (ours, others) = (one.journal(), other.journal());
+    ours.len() == others.len() && ours.iter().zip(others).all(|(a, b)| a.same(b))
 }
 
 fn have_same_replies(one: &Kernel, other: &Kernel) -> bool {

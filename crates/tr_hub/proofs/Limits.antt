@@ -8,7 +8,7 @@ use Rattle.tr_tracee.specs.Ends.{child}
 use Rattle.tr_tracee.specs.Lives.{is_dead, is_execing, is_free, status_of_end}
 use Rattle.tr_tracee.specs.Stops.{may_enter}
 use Rattle.tr_tracee.specs.Threads.{is_leader}
-use Rattle.tr_model.specs.declared.events.Entry.{Entry}
+use Rattle.tr_model.specs.Entries.{Entry}
 use Rattle.tr_model.specs.Moves as moves
 use Rattle.tr_model.specs.Moves.{begin, on_instance, on_thread, Work}
 use Rattle.tr_model.specs.Steps.{Step}

@@ -1,5 +1,5 @@
 -- What a check says, in its parts.
-use Rattle.std.proofs.Common.{◌≡◌, ◌∙◌, ℕ, Option, Some, None, Result, Ok, Err, refl, sym, ap}
+use Rattle.std.proofs.Common.{◌≡◌, ◌∙◌, ℕ, Option, Some, None, Result, Ok, Err, refl, subst, sym, ap}
 use Rattle.std.proofs.lemmas.Option.{same_Some}
 use Rattle.tr_model.specs.declared.checked.Checked.{Checked}
 use Rattle.tr_model.specs.declared.checked.Checked.TheVariants.{Due, Quiet}
@@ -10,6 +10,7 @@ use Rattle.tr_model.specs.declared.replies.Reply.{Reply}
 use Rattle.tr_model.specs.declared.events.Event.TheVariants.{CloneThread, StarterWait, Take, TakeAny, Wait}
 use Rattle.tr_model.specs.Causes.{cause_of, quiet_of}
 use Rattle.tr_model.specs.Compare.{Permits}
+use Rattle.tr_model.specs.Entries.{Fits}
 use Rattle.tr_model.specs.Laws.{IsCause}
 use Rattle.tr_kernel.specs.Private.{IsFixed}
 use Rattle.tr_model.specs.Preferred.{check, preferred, quiet_or, refused_or}
@@ -88,3 +89,12 @@ permits_fixed T a (Wait which) c p = tt
 permits_fixed T a (StarterWait which flags) c p = tt
 permits_fixed T a (CloneThread id) c p = tt
 permits_fixed T a _ c p = checked_due _ _ _ p.no_cause p.not_quiet ∙ ap (λ (x : Choice). Ok (Due x)) (sym p.admitted)
+
+-- what may be chosen is of what the event leaves open
+pub permits_fits : (T : Table) (a : ℕ) (e : Event) (c : Choice) → Permits T a e c → Fits e c
+permits_fits T a (Take id) c p = subst (Fits (Take id)) (sym p.admitted.1) refl
+permits_fits T a (TakeAny g) c p = subst (Fits (TakeAny g)) (sym p.admitted.2) refl
+permits_fits T a (Wait which) c p = subst (Fits (Wait which)) (sym p.admitted.1) refl
+permits_fits T a (StarterWait which flags) c p = subst (Fits (StarterWait which flags)) (sym p.admitted.1) refl
+permits_fits T a (CloneThread id) c p = subst (Fits (CloneThread id)) (sym p.admitted.1) refl
+permits_fits T a _ c p = sym p.admitted

@@ -4,7 +4,7 @@ use Rattle.std.proofs.lemmas.Bool.{cases_eq, leb-true}
 use Rattle.std.specs.Prelude.{IsTrue, IfSome, slice_get, nat_le, Bool, true, false, ◌&&◌, if◌then◌else◌, unwrap_or}
 use Rattle.tr_model.specs.declared.checked.Checked.TheVariants.{Due}
 use Rattle.tr_model.specs.Choices.{Choice}
-use Rattle.tr_model.specs.declared.events.Entry.{Entry}
+use Rattle.tr_model.specs.Entries.{Entry}
 use Rattle.tr_model.specs.declared.events.Event.{Event}
 use Rattle.tr_model.specs.declared.fates.Ending.{Ending}
 use Rattle.tr_model.specs.declared.fates.Fate.{Fate}

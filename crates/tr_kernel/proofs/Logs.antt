@@ -4,7 +4,7 @@ use Rattle.tr_tracee.specs.declared.thread.Thread.{Thread}
 use Rattle.tr_tracee.specs.Lives.{is_execing}
 use Rattle.tr_tracee.specs.Threads.{is_leader}
 use Rattle.tr_model.specs.Choices.{Choice}
-use Rattle.tr_model.specs.declared.events.Entry.{Entry}
+use Rattle.tr_model.specs.Entries.{Entry}
 use Rattle.tr_model.specs.declared.events.Event.{Event}
 use Rattle.tr_model.specs.declared.events.Event.TheVariants as event
 use Rattle.tr_model.specs.Moves.{at, begin, on_thread, take_place, with_leaders_row}

@@ -2,7 +2,7 @@
 use Rattle.std.proofs.Common.{◌≡◌, ℕ, zero, suc, ◌+◌, ◌-◌, ◌≤◌, ◌<◌, List, [], ◌∷◌, ◌++◌, length, length-append, filter, replicate, Bool, true, false, ◌&&◌, ◌==◌, if◌then◌else◌, Some, None, nat_le, slice_get, get_or, set, refl, sym, ap, ap₂, ◌∙◌, arith, append-nil, append_assoc, unwrap_or}
 use Rattle.std.proofs.lemmas.Bool.{le-leb, leb-true, leb-false, eq-eqb, ne_eqb, and_from}
 use Rattle.std.proofs.lemmas.List.Elements.{filter-append}
-use Rattle.tr_model.specs.declared.events.Entry.{Entry}
+use Rattle.tr_model.specs.Entries.{Entry}
 use Rattle.tr_model.specs.declared.fates.Ending.{Ending}
 use Rattle.tr_model.specs.declared.fates.Fate.{Fate}
 use Rattle.tr_model.specs.declared.fates.Fate.TheVariants.{Pending, Merged, Delivered, Suppressed, Flushed}

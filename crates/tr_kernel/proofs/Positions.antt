@@ -1,6 +1,6 @@
 -- Tables between the entries of a journal.
 use Rattle.std.proofs.Common.{◌≡◌, ℕ, ◌≤◌, List, [], ◌∷◌, ◌++◌, length, zero, suc, refl, sym, subst, arith}
-use Rattle.tr_model.specs.declared.events.Entry.{Entry}
+use Rattle.tr_model.specs.Entries.{Entry}
 use Rattle.tr_model.specs.declared.replies.Reply.{Reply}
 use Rattle.tr_model.specs.Journals.{Replay}
 use Rattle.tr_model.specs.Steps.{work_of}

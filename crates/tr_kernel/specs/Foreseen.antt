@@ -3,7 +3,7 @@ use Rattle.std.specs.Prelude.{length, nat_le, if◌then◌else◌, Option, Some,
 use Rattle.tr_model.specs.Choices.{Choice}
 use Rattle.tr_model.specs.declared.checked.Checked.{Checked}
 use Rattle.tr_model.specs.declared.checked.Checked.TheVariants.{Quiet, Due}
-use Rattle.tr_model.specs.declared.events.Entry.{Entry}
+use Rattle.tr_model.specs.Entries.{Entry}
 use Rattle.tr_model.specs.declared.replies.Refusal.{Refusal}
 use Rattle.tr_model.specs.declared.replies.Refusal.TheVariants.{JournalFull}
 use Rattle.tr_model.specs.declared.replies.Reply.{Reply}

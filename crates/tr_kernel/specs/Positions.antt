@@ -1,6 +1,6 @@
 -- Positions of a journal, counted from 1, and the tables between its entries.
 use Rattle.std.specs.Prelude.{ℕ, zero, suc, List, [], ◌∷◌, Option, None, slice_get, take, drop}
-use Rattle.tr_model.specs.declared.events.Entry.{Entry}
+use Rattle.tr_model.specs.Entries.{Entry}
 use Rattle.tr_model.specs.Steps.{work_of}
 use Rattle.tr_model.specs.Tables.{Table}
 

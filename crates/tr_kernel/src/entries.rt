@@ -30,8 +30,8 @@ pub(crate) fn report_of(entry: &Option<Entry>) -> Option<u64>
     ensures { result ≡ report_of entry.now }
 {
     match entry {
-        Some(entry) => match entry.event {
-            Event::Wait { .. } | Event::StarterWait { .. } => entry.choice.report(),
+        Some(entry) => match entry.event() {
+            Event::Wait { .. } | Event::StarterWait { .. } => entry.choice().report(),
             _ => None,
         },
         None => None,
@@ -73,7 +73,7 @@ fn make_room(
 
 /// Makes the entry of an event that is due, with any choice that the model admits, and writes it down, with its reply, the
 /// fates and its note. All that may want memory comes first. Where memory is refused nothing has changed.
-#[tactic(auto, using(crate::proofs::Logs::deaths_few, crate::proofs::Checks::permits_fixed))]
+#[tactic(auto, using(crate::proofs::Logs::deaths_few, crate::proofs::Checks::permits_fixed, crate::proofs::Checks::permits_fits))]
 #[inline(always)]
 pub(crate) fn write_entry(
     step: &mut Step,
@@ -127,11 +127,7 @@ pub(crate) fn write_entry(
     let reply = change(step, alloc, actor, event, choice)?;
     fates.enter(step.table().accepted() as usize - fates.len(), step.ended());
     notes.note(fact, step, &reply);
-    let entry = Entry {
-        actor,
-        event: *event,
-        choice,
-    };
+    let entry = Entry::new(actor, *event, choice);
     journal.push(&entry, &reply);
     Ok(copied(&reply))
 }

@@ -222,7 +222,7 @@ impl Kernel {
             → IsRestartAt (table_of self.now.start) self.now.journal i j stop.now k
             → ⊥ }
     {
-        let tracer = self.journal.entry(i as usize - 1).actor;
+        let tracer = self.journal.entry(i as usize - 1).actor();
         let place = first_restart(
             stop,
             tracer,

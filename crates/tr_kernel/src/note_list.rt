@@ -59,8 +59,8 @@ impl Model for NoteList {
 }
 
 impl KeptNote {
-    /// The note of an entry that is nothing to the laws.
-    fn blank(place: u32, note: &Note) -> KeptNote
+    /// A note without what its entry is to the laws.
+    fn without_fact(place: u32, note: &Note) -> KeptNote
         ensures place { result.place ≡ place }
         ensures note { noted result ≡ record note.now { fact = Nothing } }
     {
@@ -80,14 +80,14 @@ impl KeptNote {
         ensures place { result.place ≡ place }
         ensures note { noted result ≡ note.now }
     {
-        let blank = KeptNote::blank(place, note);
+        let rest = KeptNote::without_fact(place, note);
         match note.fact {
-            EntryFact::Nothing => blank,
+            EntryFact::Nothing => rest,
             EntryFact::Stop(Stopped { thread, group }) => KeptNote {
                 kind: Kind::Stop,
                 id: thread,
                 second: group,
-                ..blank
+                ..rest
             },
             EntryFact::Take(taken) => {
                 let (kind, id) = match taken.queue {
@@ -100,13 +100,13 @@ impl KeptNote {
                     id,
                     second: taken.transfers,
                     signal: taken.signal.number(),
-                    ..blank
+                    ..rest
                 }
             }
             EntryFact::Exec(group) => KeptNote {
                 kind: Kind::Exec,
                 id: group,
-                ..blank
+                ..rest
             },
         }
     }

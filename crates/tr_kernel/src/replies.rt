@@ -1,6 +1,6 @@
 ghost use Rattle.std.specs.Prelude.{◌≡◌, ◌*◌, ◌+◌};
 ghost use Rattle.tr_kernel.specs.Kept.{IsToldBy, signal_of, taker, told};
-ghost use Rattle.tr_model.specs.declared.events.Entry.{Entry};
+ghost use Rattle.tr_model.specs.Entries.{Entry};
 ghost use Rattle.tr_model.specs.Steps.{number};
 
 use tr_model::{Did, Entry, Event, Fate, Reply};
@@ -29,9 +29,9 @@ pub(crate) enum KeptReply {
 fn taker(entry: &Entry) -> u32
     ensures { result ≡ taker entry.now }
 {
-    match entry.event {
+    match *entry.event() {
         Event::Take { tid } => tid,
-        _ => entry.choice.thread().unwrap_or(0),
+        _ => entry.choice().thread().unwrap_or(0),
     }
 }
 
@@ -87,7 +87,7 @@ impl KeptReply {
             KeptReply::Took { did, sig, info } => Reply::Took {
                 tid: taker(entry),
                 inst: Instance {
-                    n: entry.choice.instance().unwrap_or(0),
+                    n: entry.choice().instance().unwrap_or(0),
                     sig: signal_of(sig),
                     info,
                 },
@@ -97,7 +97,7 @@ impl KeptReply {
             KeptReply::Waited { id, word } => Reply::Waited {
                 id,
                 word,
-                report: entry.choice.report().unwrap_or(0),
+                report: entry.choice().report().unwrap_or(0),
             },
             KeptReply::Message { value } => Reply::Message { value },
             KeptReply::Signal { sig, info } => Reply::Signal {

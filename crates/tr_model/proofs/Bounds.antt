@@ -23,7 +23,7 @@ use Rattle.tr_tracee.specs.Ends as TraceeEnds
 use Rattle.tr_tracee.specs.declared.life.End.TheVariants as ending
 use Rattle.tr_group.specs.declared.stops.Action.{Action}
 use Rattle.tr_model.specs.Choices.{Choice}
-use Rattle.tr_model.specs.declared.events.Entry.{Entry}
+use Rattle.tr_model.specs.Entries.{Entry}
 use Rattle.tr_model.specs.declared.events.Event.{Event}
 use Rattle.tr_model.specs.declared.events.Event.TheVariants as event
 use Rattle.tr_model.specs.declared.fates.Fate.TheVariants.{Merged, Delivered, Suppressed, Flushed}

@@ -9,7 +9,7 @@ use Rattle.tr_tracee.specs.declared.thread.Trace.{Trace}
 use Rattle.tr_model.specs.Choices.{Choice}
 use Rattle.tr_model.specs.declared.events.Event.{Event}
 use Rattle.tr_model.specs.declared.events.Event.TheVariants as event
-use Rattle.tr_model.specs.declared.events.Entry.{Entry}
+use Rattle.tr_model.specs.Entries.{Entry}
 use Rattle.tr_model.specs.declared.replies.Reply.{Reply}
 use Rattle.tr_model.proofs.Among.{some_found}
 use Rattle.tr_model.proofs.Every.{each_filter}

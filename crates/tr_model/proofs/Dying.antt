@@ -9,7 +9,7 @@ use Rattle.tr_tracee.specs.declared.life.End.TheVariants as ending
 use Rattle.tr_tracee.specs.declared.life.Stop.{Stop}
 use Rattle.tr_tracee.specs.declared.life.Stop.TheVariants as stop
 use Rattle.tr_tracee.specs.declared.thread.Thread.{Thread}
-use Rattle.tr_model.specs.declared.events.Entry.{Entry}
+use Rattle.tr_model.specs.Entries.{Entry}
 use Rattle.tr_model.specs.declared.replies.Reply.{Reply}
 use Rattle.tr_model.proofs.Every.{each_map, each-append, each_filter, each_found, each_changed, each_dropped, is_in-append}
 use Rattle.tr_model.proofs.Calm.{Calm, calm_throughout, calm_broken, calm_broken_by_exec, calm_restarted, calm_listening}

@@ -24,7 +24,7 @@ use Rattle.tr_model.specs.declared.replies.Did.TheVariants as did
 use Rattle.tr_model.specs.declared.fates.Fate.{Fate}
 use Rattle.tr_model.specs.declared.fates.Fate.TheVariants.{Pending, Merged, Delivered, Suppressed, Flushed}
 use Rattle.tr_model.specs.Choices.{Choice}
-use Rattle.tr_model.specs.declared.events.Entry.{Entry}
+use Rattle.tr_model.specs.Entries.{Entry}
 use Rattle.tr_model.specs.declared.events.Event.{Event}
 use Rattle.tr_model.specs.declared.events.Event.TheVariants as event
 use Rattle.tr_model.specs.declared.rows.Waiting.{Waiting}

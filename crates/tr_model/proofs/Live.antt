@@ -12,7 +12,7 @@ use Rattle.tr_tracee.specs.Lives
 use Rattle.tr_tracee.specs.Stops as TraceeStops
 use Rattle.tr_tracee.specs.Threads
 use Rattle.tr_tracee.specs.Ends as TraceeEnds
-use Rattle.tr_model.specs.declared.events.Entry.{Entry}
+use Rattle.tr_model.specs.Entries.{Entry}
 use Rattle.tr_model.specs.declared.fates.Ending.{Ending}
 use Rattle.tr_model.specs.declared.fates.Fate.{Fate}
 use Rattle.tr_model.specs.declared.fates.Fate.TheVariants.{Pending, Flushed}

@@ -13,7 +13,7 @@ use Rattle.tr_tracee.specs.declared.thread.Thread.{Thread}
 use Rattle.tr_model.specs.Choices.{Choice}
 use Rattle.tr_model.specs.declared.events.Event.{Event}
 use Rattle.tr_model.specs.declared.events.Event.TheVariants as event
-use Rattle.tr_model.specs.declared.events.Entry.{Entry}
+use Rattle.tr_model.specs.Entries.{Entry}
 use Rattle.tr_model.specs.declared.replies.Reply.{Reply}
 use Rattle.tr_model.proofs.Kept.{act_on-kept, Kept, any, any_of, always-kept, settle-kept, itself}
 use Rattle.tr_model.proofs.OneFate.{waits, one, Sound, born_past, born_small, replay_sound, start_sound}

@@ -2,7 +2,7 @@
 use Rattle.std.proofs.Common.{◌≡◌, ℕ, zero, suc, ◌+◌, ◌≤◌, List, [], ◌∷◌, ◌++◌, true, false, Some, None, Option, refl, sym, ap, ◌∙◌, Bool, ◌&&◌, ◌==◌, ◌⊎◌, inl, inr, if◌then◌else◌, arith, nat_le, true≢false, ap₂, slice_get, unwrap_or}
 use Rattle.std.proofs.lemmas.Bool.{le-leb, eqb-true, and_from, eq-eqb}
 use Rattle.std.proofs.lemmas.Option.{none-some, same_Some}
-use Rattle.tr_model.specs.declared.events.Entry.{Entry}
+use Rattle.tr_model.specs.Entries.{Entry}
 use Rattle.tr_model.specs.declared.fates.Fate.{Fate}
 use Rattle.tr_model.specs.declared.fates.Fate.TheVariants.{Pending, Merged, Delivered, Suppressed, Flushed}
 use Rattle.tr_model.proofs.OneFate.{waits, one, gone, holds, Sound, born_within, waits_is, held_is, replay_sound, start_sound}

@@ -28,7 +28,7 @@ use Rattle.tr_model.specs.declared.rows.Target.{Target}
 use Rattle.tr_model.specs.declared.rows.Target.TheVariants as target
 use Rattle.tr_model.specs.Causes.{cause_of, quiet_of}
 use Rattle.tr_model.specs.declared.rows.Group.{Group}
-use Rattle.tr_model.specs.declared.events.Entry.{Entry}
+use Rattle.tr_model.specs.Entries.{Entry}
 use Rattle.tr_model.specs.Choices.{no_choice}
 use Rattle.tr_model.specs.Journals.{totals}
 use Rattle.tr_model.specs.Runs.{Answer, Entered, Read, Call, State, call, run}

@@ -13,7 +13,7 @@ use Rattle.tr_model.specs.declared.replies.Reply.TheVariants as reply
 use Rattle.tr_model.specs.declared.rows.Target.TheVariants as target
 use Rattle.tr_model.specs.Causes.{cause_of, quiet_of}
 use Rattle.std.specs.Prelude.{◌≤◌, ◌*◌}
-use Rattle.tr_model.specs.declared.events.Entry.{Entry}
+use Rattle.tr_model.specs.Entries.{Entry}
 use Rattle.tr_model.specs.Steps.{Admits, Step, after, work_of}
 use Rattle.tr_model.specs.Choices.{takes_instance, gives_report, takes_by}
 use Rattle.tr_model.specs.Laws.{ConsumesStop, RestartStandsBetween, SomeRestarts}

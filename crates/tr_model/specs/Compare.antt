@@ -1,7 +1,7 @@
 -- The model as a judge of another system: which answers to a call it lets be, with whatever admitted choice.
 use Rattle.std.specs.Prelude.{◌≡◌, ◌↔◌, ℕ, ◌<◌, suc, List, [], ◌∷◌, length, take, Some, None, Result, Ok, Err, ◌⊎◌}
 use Rattle.tr_model.specs.Choices.{Choice, gives_id, gives_report, no_choice, takes_by, takes_instance}
-use Rattle.tr_model.specs.declared.events.Entry.{Entry}
+use Rattle.tr_model.specs.Entries.{Entry}
 use Rattle.tr_model.specs.declared.events.Event.{Event}
 use Rattle.tr_model.specs.declared.events.Event.TheVariants as event
 use Rattle.tr_model.specs.declared.replies.Refusal.{Refusal}

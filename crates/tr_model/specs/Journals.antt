@@ -6,7 +6,7 @@ use Rattle.tr_tracee.specs.declared.thread.Thread.{Thread}
 use Rattle.tr_tracee.specs.Lives.{held}
 use Rattle.tr_group.specs.declared.stops.GroupStop.TheVariants.{No}
 use Rattle.tr_model.specs.Choices.{Choice}
-use Rattle.tr_model.specs.declared.events.Entry.{Entry}
+use Rattle.tr_model.specs.Entries.{Entry}
 use Rattle.tr_model.specs.declared.events.Event.{Event}
 use Rattle.tr_model.specs.declared.events.Event.TheVariants as event
 use Rattle.tr_model.specs.declared.fates.Ending.{Ending}

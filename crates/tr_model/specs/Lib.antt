@@ -4,6 +4,7 @@ pub mod Clones
 pub mod Compare
 pub mod Deaths
 pub mod Ends
+pub mod Entries
 pub mod Execs
 pub mod Foreseen
 pub mod GroupStops

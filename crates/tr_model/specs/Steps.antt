@@ -8,7 +8,7 @@ use Rattle.tr_tracee.specs.Marks.{masked, paused}
 use Rattle.tr_tracee.specs.Stops.{interrupted, set_options}
 use Rattle.tr_tracee.specs.Threads.{at_thread}
 use Rattle.tr_model.specs.Choices.{Choice, no_choice, takes_instance, takes_by, gives_report, gives_id}
-use Rattle.tr_model.specs.declared.events.Entry.{Entry}
+use Rattle.tr_model.specs.Entries.{Entry}
 use Rattle.tr_model.specs.declared.events.Event.{Event}
 use Rattle.tr_model.specs.declared.events.Event.TheVariants as event
 use Rattle.tr_model.specs.declared.fates.Ending.{Ending}

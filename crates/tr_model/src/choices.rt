@@ -1,5 +1,5 @@
 ghost use Rattle.std.specs.Prelude.{◌≡◌, None, Some};
-ghost use Rattle.tr_model.specs.Choices.{gives_id, gives_report, no_choice, takes_by, takes_instance};
+ghost use Rattle.tr_model.specs.Choices.{gives_id, gives_report, packed_id, packed_number, takes_by, takes_instance};
 
 use std::marker::Model;
 
@@ -89,6 +89,20 @@ impl Choice {
             id,
             kind: Kind::NewId,
         }
+    }
+
+    /// The number of the instance or the report, else 0.
+    pub(crate) fn number(&self) -> u64
+        ensures { result ≡ packed_number self.now }
+    {
+        self.number
+    }
+
+    /// The thread or the new id, else 0.
+    pub(crate) fn id(&self) -> u32
+        ensures { result ≡ packed_id self.now }
+    {
+        self.id
     }
 
     /// The thread that a take by any thread of a group fell to.

@@ -1,4 +1,3 @@
-use crate::choices::Choice;
 use tr_group::Action;
 use tr_sigset::SigSet;
 use tr_tracee::Options;
@@ -63,15 +62,4 @@ pub enum Event {
     Wait { which: Which },
     /// The starter's waitpid(2) with `WNOHANG`. The starter, actor 1, is the parent of all groups.
     StarterWait { which: Which, flags: WaitFlags },
-}
-
-/// An entry of the journal: one step.
-#[derive(Clone, Copy, Debug, PartialEq, Eq)]
-pub struct Entry {
-    /// Who asked for it: a tracer, a thread, the starter or any other.
-    pub actor: u32,
-    /// What was asked for.
-    pub event: Event,
-    /// What was chosen where the model leaves it free.
-    pub choice: Choice,
 }

@@ -4,6 +4,7 @@
 mod checked;
 mod choices;
 mod compare;
+mod entries;
 mod events;
 mod fates;
 mod journals;
@@ -21,7 +22,8 @@ pub use compare::{
     answers_determine, one_test_decides, replies_are_foreseen, replies_tell_the_choice,
     verdicts_are_determined,
 };
-pub use events::{Entry, Event};
+pub use entries::Entry;
+pub use events::Event;
 pub use fates::{Ending, Fate, Totals};
 pub use journals::{
     a_restart_stands_between, each_report_has_one_wait, each_signal_has_one_fate,

@@ -6,7 +6,7 @@ use Rattle.std.specs.List.{All, filter, list_all, list_any}
 use Rattle.std.proofs.lemmas.Bool.{and_parts, cases_Bool, cases_eq, eqb-true, ne_eqb, not-true}
 use Rattle.std.proofs.lemmas.List.Elements.{All-cons, All-head, All-nil, All-tail}
 use Rattle.std.proofs.lemmas.List.Sums.{count_by-le-length, length-filter}
-use Rattle.tr_model.specs.declared.events.Entry.{Entry}
+use Rattle.tr_model.specs.Entries.{Entry}
 use Rattle.tr_model.specs.declared.replies.Reply.{Reply}
 use Rattle.tr_table.specs.Starts.{no_repeat}
 use Rattle.tr_table.proofs.Ids.{any_mapped}

@@ -1,5 +1,5 @@
 use Rattle.std.proofs.Common.{ap, arith, length, subst, sym}
-use Rattle.tr_model.specs.declared.events.Entry.{Entry}
+use Rattle.tr_model.specs.Entries.{Entry}
 use Rattle.tr_model.specs.Moves.{Work}
 use Rattle.tr_kernel.specs.Kept.{IsToldBy}
 use Rattle.tr_kernel.proofs.Told.{reply_told}
@@ -18,4 +18,4 @@ note-requires-clause-one c =
 pub push-requires-clause-told : goal.push-requires-clause-told
 push-requires-clause-told c =
     let e : Entry = record { actor = c.args.actor; event = c.args.event.now; choice = c.args.choice } in
-    subst (IsToldBy e) (sym c.in_ok-reply.ensures.did.reply) (reply_told c.args.step.now.work.table e)
+    subst (λ x. IsToldBy x c.in_ok-reply.reply) (sym c.new-entry.ensures) (subst (IsToldBy e) (sym c.in_ok-reply.ensures.did.reply) (reply_told c.args.step.now.work.table e))

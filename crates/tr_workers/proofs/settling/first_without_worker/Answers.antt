@@ -1,5 +1,5 @@
 use Rattle.std.proofs.Common.{rules}
-use Rattle.tr_model.specs.declared.events.Entry.{Entry}
+use Rattle.tr_model.specs.Entries.{Entry}
 use Rattle.tr_workers.specs.Settled.{has_worker}
 use Rattle.tr_workers.proofs.Gaps.{none_of_all}
 use Rattle.tr_workers.proofs.settling.first_without_worker.Goals as goal
