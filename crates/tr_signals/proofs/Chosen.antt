@@ -20,12 +20,12 @@ use Rattle.tr_model.specs.Steps.{takes}
 use Rattle.tr_model.specs.Tables.{Table, queue, same_target}
 use Rattle.tr_model.specs.Takes.{choices, choices_from, choices_in, goes_before, unblocked, with_number}
 use Rattle.tr_model.proofs.Among.{Among, filter_among}
-use Rattle.tr_model.proofs.Compared.{choice_waits, numbered_among}
+use Rattle.tr_model.proofs.Compared.{numbered_among}
 use Rattle.tr_model.proofs.Order.{numbered-append}
-use Rattle.tr_model.proofs.Sorted.{sorted_instances}
-use Rattle.tr_model.proofs.Takable.{all_instances, instance_numbered, numbered_is, same_number}
-use Rattle.tr_table.specs.Choices.{target_in}
+use Rattle.tr_table.specs.Changes.{queue_in}
+use Rattle.tr_table.specs.Choices.{waiting_in}
 use Rattle.tr_table.proofs.Keys.{same_is}
+use Rattle.tr_table.proofs.Standing.{instance_waiting}
 
 -- Where a number waits
 
@@ -34,72 +34,56 @@ above_among n x [] p m = absurd m
 above_among n x (w ∷ ws) p (inl e) = subst (λ z. n < z.instance.n) (sym e) p.0
 above_among n x (w ∷ ws) p (inr m) = above_among n x ws p.1 m
 
-target_found : (x : Waiting) (ws : List Waiting) → IsSorted ws → Among x ws → target_in ws x.instance.n ≡ Some x.target
-target_found x [] s m = absurd m
-target_found x (w ∷ ws) s (inl e) =
-    ap (λ b. if b then Some w.target else target_in ws x.instance.n) (eq-eqb w.instance.n x.instance.n (ap (λ z. z.instance.n) (sym e))) ∙ ap (λ z. Some z.target) (sym e)
-target_found x (w ∷ ws) s (inr m) =
+waiting_found : (x : Waiting) (ws : List Waiting) → IsSorted ws → Among x ws → waiting_in ws x.instance.n ≡ Some x
+waiting_found x [] s m = absurd m
+waiting_found x (w ∷ ws) s (inl e) =
+    ap (λ b. if b then Some w else waiting_in ws x.instance.n) (eq-eqb w.instance.n x.instance.n (ap (λ z. z.instance.n) (sym e))) ∙ ap Some (sym e)
+waiting_found x (w ∷ ws) s (inr m) =
     let less : w.instance.n < x.instance.n = above_among w.instance.n x ws s.0 m in
     let other : (w.instance.n == x.instance.n) ≡ false = grind (arith, nat_tests, less) in
-    ap (λ b. if b then Some w.target else target_in ws x.instance.n) other ∙ target_found x ws s.1 m
+    ap (λ b. if b then Some w else waiting_in ws x.instance.n) other ∙ waiting_found x ws s.1 m
 
-record Queued (q : Target) (i : Instance) (ws : List Waiting) : Type 0 where
-  row : Waiting
-  among : Among row ws
-  instance : row.instance ≡ i
-  target : same_target q row.target ≡ true
-
-queued : (q : Target) (i : Instance) (ws : List Waiting) → Among i (map (λ w. w.instance) (filter (λ w. same_target q w.target) ws)) → Queued q i ws
+queued : (q : Target) (i : Instance) (ws : List Waiting) → Among i (queue_in q ws) → Among (record { instance = i; target = q }) ws
 queued q i [] m = absurd m
 queued q i (w ∷ ws) m = go (same_target q w.target) refl m (queued q i ws)
   where
     go : (b : Bool) → same_target q w.target ≡ b → Among i (map (λ w. w.instance) (cond b (w ∷ filter (λ w. same_target q w.target) ws) (filter (λ w. same_target q w.target) ws)))
-        → (Among i (map (λ w. w.instance) (filter (λ w. same_target q w.target) ws)) → Queued q i ws) → Queued q i (w ∷ ws)
-    go true h (inl e) rest = record { row = w; among = inl refl; instance = sym e; target = h }
-    go true h (inr k) rest = let r = rest k in record { row = r.row; among = inr r.among; instance = r.instance; target = r.target }
-    go false h k rest = let r = rest k in record { row = r.row; among = inr r.among; instance = r.instance; target = r.target }
+        → (Among i (queue_in q ws) → Among (record { instance = i; target = q }) ws) → Among (record { instance = i; target = q }) (w ∷ ws)
+    go true h (inl e) rest = inl (ap (λ j. record { instance = j; target = q }) e ∙ ap (λ r. record { instance = w.instance; target = r }) (same_is q w.target h))
+    go true h (inr k) rest = inr (rest k)
+    go false h k rest = inr (rest k)
 
-from_choices : (T : Table) (t : Thread) (q : Target) (i : Instance) → Among i (choices_from T t q) → Among i (queue T q)
+from_choices : (T : Table) (t : Thread) (q : Target) (i : Instance) → Among i (choices_from T t q) → (is_free t.life ≡ true) × Among i (queue T q)
 from_choices T t q i m = go (is_ready_to_take t) refl
   where
     xs : List Instance
     xs = unblocked t.mask (queue T q)
 
-    go : (b : Bool) → is_ready_to_take t ≡ b → Among i (queue T q)
+    go : (b : Bool) → is_ready_to_take t ≡ b → (is_free t.life ≡ true) × Among i (queue T q)
     go true r =
         let a = filter_among (λ j. list_all (λ k. not (goes_before k j)) xs) i xs (rw r at m) in
-        (filter_among (λ j. not (has t.mask j.sig)) i (queue T q) a.0).0
+        ((and_parts (is_free t.life) (not (has_mark t)) r).0, (filter_among (λ j. not (has t.mask j.sig)) i (queue T q) a.0).0)
     go false r = absurd (rw r at m)
-
--- what is a choice from a queue waits in that queue
-waits_there : (T : Table) (t : Thread) (q : Target) (n : ℕ) (i : Instance) → IsSorted T.waiting → with_number n (choices_from T t q) ≡ Some i → target_in T.waiting n ≡ Some q
-waits_there T t q n i s e =
-    let k = numbered_among n i (choices_from T t q) e in
-    let x = queued q i T.waiting (from_choices T t q i k.0) in
-    let same : x.row.instance.n ≡ n = ap (λ z. z.n) x.instance ∙ k.1 in
-    ap (target_in T.waiting) (sym same) ∙ (target_found x.row T.waiting s x.among ∙ ap Some (sym (same_is q x.row.target x.target)))
 
 -- What was chosen
 
 pub record IsChosen (T : Table) (t : Thread) (n : ℕ) (i : Instance) : Type 0 where
   pub free : is_free t.life ≡ true
   pub number : i.n ≡ n
-  pub waits : instance_in T.waiting n ≡ Some i
   pub from : Target
-  pub there : target_in T.waiting n ≡ Some from
+  pub there : waiting_in T.waiting n ≡ Some (record { instance = i; target = from })
+  pub waits : instance_in T.waiting n ≡ Some i
   pub taken : taken_by T (Some t) n ≡ Some (record { number = i.n; signal = i.sig; queue = from })
 
-is_ready : (T : Table) (t : Thread) (i : Instance) → Among i (choices T t) → is_free t.life ≡ true
-is_ready T t i m = go (is_ready_to_take t) refl
-  where
-    go : (b : Bool) → is_ready_to_take t ≡ b → is_free t.life ≡ true
-    go true r = (and_parts (is_free t.life) (not (has_mark t)) r).0
-    go false r = absurd (rw r at m)
-
-record From (T : Table) (t : Thread) (n : ℕ) (i : Instance) : Type 0 where
-  queue : Target
-  there : target_in T.waiting n ≡ Some queue
-  taken : taken_by T (Some t) n ≡ Some (record { number = i.n; signal = i.sig; queue = queue })
+-- what is a choice from a queue waits in that queue
+chosen_from : (T : Table) (t : Thread) (q : Target) (n : ℕ) (i : Instance) → IsSorted T.waiting → with_number n (choices_from T t q) ≡ Some i
+    → taken_by T (Some t) n ≡ Some (record { number = i.n; signal = i.sig; queue = q }) → IsChosen T t n i
+chosen_from T t q n i s e taken =
+    let m = numbered_among n i (choices_from T t q) e in
+    let k = from_choices T t q i m.0 in
+    let row : Waiting = record { instance = i; target = q } in
+    let there : waiting_in T.waiting n ≡ Some row = ap (waiting_in T.waiting) (sym m.1) ∙ waiting_found row T.waiting s (queued q i T.waiting k.1) in
+    record { free = k.0; number = m.1; from = q; there = there; waits = instance_waiting T.waiting n ∙ rw there refl; taken = taken }
 
 found_later : (n : ℕ) (i : Instance) (xs ys : List Instance) → with_number n (xs ++ ys) ≡ Some i → with_number n xs ≡ None → with_number n ys ≡ Some i
 found_later n i [] ys e f = e
@@ -109,8 +93,8 @@ found_later n i (x ∷ xs) ys e f = go (x.n == n) e f (found_later n i xs ys)
     go true p q rest = cc
     go false p q rest = rest p q
 
-from_where : (T : Table) (t : Thread) (n : ℕ) (i : Instance) → IsSorted T.waiting → with_number n (choices T t) ≡ Some i → From T t n i
-from_where T t n i s e = go (with_number n (choices_from T t own)) refl
+pub chosen_is : (T : Table) (t : Thread) (n : ℕ) (i : Instance) → IsSorted T.waiting → with_number n (choices T t) ≡ Some i → IsChosen T t n i
+chosen_is T t n i s e = go (with_number n (choices_from T t own)) refl
   where
     own : Target
     own = target.Thread t.id
@@ -118,30 +102,14 @@ from_where T t n i s e = go (with_number n (choices_from T t own)) refl
     shared : Target
     shared = target.Group t.group
 
-    go : (o : Option Instance) → with_number n (choices_from T t own) ≡ o → From T t n i
+    go : (o : Option Instance) → with_number n (choices_from T t own) ≡ o → IsChosen T t n i
     go (Some j) f =
         let same : j ≡ i = same_Some j i (sym (numbered-append n j (choices_from T t own) (choices_from T t shared) f) ∙ e) in
         let k : with_number n (choices_from T t own) ≡ Some i = f ∙ ap Some same in
-        record { queue = own; there = waits_there T t own n i s k; taken = ap (λ o. taken_if own o (taken_if shared (with_number n (choices_from T t shared)) None)) k }
+        chosen_from T t own n i s k (ap (λ o. taken_if own o (taken_if shared (with_number n (choices_from T t shared)) None)) k)
     go None f =
         let k = found_later n i (choices_from T t own) (choices_from T t shared) e f in
-        record { queue = shared; there = waits_there T t shared n i s k; taken = ap (λ o. taken_if own o (taken_if shared (with_number n (choices_from T t shared)) None)) f ∙ ap (λ o. taken_if shared o None) k }
-
-pub chosen_is : (T : Table) (t : Thread) (n : ℕ) (i : Instance) → IsSorted T.waiting → with_number n (choices T t) ≡ Some i → IsChosen T t n i
-chosen_is T t n i s e =
-    let m = numbered_among n i (choices T t) e in
-    let w = choice_waits T t i m.0 in
-    let order = sorted_instances T.waiting s in
-    let h : with_number i.n (all_instances T.waiting) ≡ Some i = numbered_is i (all_instances T.waiting) w (λ j k q. same_number j i (all_instances T.waiting) order k w q) in
-    let f = from_where T t n i s e in
-    record {
-      free = is_ready T t i m.0;
-      number = m.1;
-      waits = ap (instance_in T.waiting) (sym m.1) ∙ (instance_numbered i.n T.waiting ∙ h);
-      from = f.queue;
-      there = f.there;
-      taken = f.taken;
-    }
+        chosen_from T t shared n i s k (ap (λ o. taken_if own o (taken_if shared (with_number n (choices_from T t shared)) None)) f ∙ ap (λ o. taken_if shared o None) k)
 
 -- Whether a thread may take a number, by its two queues
 

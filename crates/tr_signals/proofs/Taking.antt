@@ -1,12 +1,12 @@
 -- What a take that is due takes, and what the model makes of it.
-use Rattle.std.proofs.Common.{◌≡◌, ◌∙◌, ℕ, true, false, Option, Some, None, Result, refl, sym, ap, subst}
+use Rattle.std.proofs.Common.{Bor, rules, ◌≡◌, ◌∙◌, ℕ, true, false, Option, Some, None, IsSome, IfOk, Result, option_copied, refl, sym, ap, ap₂, subst}
 use Rattle.std.proofs.lemmas.Bool.{true≢false}
 use Rattle.std.proofs.lemmas.Option.{same_Some}
 use Rattle.tr_pending.specs.declared.instance.Instance.{Instance}
 use Rattle.tr_tracee.specs.declared.life.Stop.TheVariants as stop
 use Rattle.tr_tracee.specs.declared.thread.Thread.{Thread}
 use Rattle.tr_model.specs.declared.events.Event.TheVariants.{Take}
-use Rattle.tr_model.specs.declared.rows.Target.{Target}
+use Rattle.tr_model.specs.declared.rows.Waiting.{Waiting}
 use Rattle.tr_model.specs.Journals.{IsSorted, queue_of, taken_by}
 use Rattle.tr_model.specs.Moves.{Work, at, begin, enter, enter_if_allowed, hold, holding, instance_in, on_instance, on_thread, pulled}
 use Rattle.tr_model.specs.Choices.{Choice, takes_instance}
@@ -14,12 +14,11 @@ use Rattle.tr_model.specs.Compare.{Permits}
 use Rattle.tr_model.specs.Tables.{Table, thread_of}
 use Rattle.tr_model.specs.Takes.{choices, take, take_numbered, with_number}
 use Rattle.tr_model.proofs.Among.{some_found}
-use Rattle.tr_table.specs.Choices.{target_in}
+use Rattle.tr_table.specs.Choices.{waiting_in}
 use Rattle.tr_model.specs.declared.replies.Reply.{Reply}
 use Rattle.tr_model.specs.GroupStops.{complete_group_stops}
 use Rattle.tr_model.specs.Steps.{Outcome, number, takes}
 use Rattle.tr_model.specs.Steps as Steps
-use Rattle.std.specs.Prelude.{IfOk}
 use Rattle.tr_model.proofs.Kept.{itself}
 use Rattle.tr_steps.specs.UnderWay.{ComesTo, UnderWay}
 use Rattle.tr_signals.specs.Private.{Takes, take_outcome}
@@ -55,29 +54,6 @@ is_due T a id n p =
 
 -- What the model makes of it
 
-pub record Took (T : Table) (id n : ℕ) (t : Thread) (i : Instance) : Type 0 where
-  pub takes : Takes T t i
-  pub does : at id (take_numbered n) (begin T) ≡ take t i (begin T)
-  pub queue : queue_of (taken_by T (thread_of T id) n) ≡ target_in T.waiting n
-
-took_is : (T : Table) (id n : ℕ) → IsSorted T.waiting → (d : IsDue T id n) → Took T id n d.thread d.instance
-took_is T id n s d =
-    let b = chosen_is T d.thread n d.instance s d.chosen in
-    record {
-      takes = record { there = itself T.threads id d.thread d.there; free = b.free; waits = ap (instance_in T.waiting) b.number ∙ b.waits };
-      does = ap (λ o. on_thread o (take_numbered n) (begin T)) d.there ∙ ap (λ o. on_instance o (take d.thread) (begin T)) d.chosen;
-      queue = ap (λ o. queue_of (taken_by T o n)) d.there ∙ (ap queue_of b.taken ∙ sym b.there);
-    }
-
-pub waits_there : (T : Table) (id n : ℕ) → IsSorted T.waiting → (d : IsDue T id n) → instance_in T.waiting n ≡ Some d.instance
-waits_there T id n s d = (chosen_is T d.thread n d.instance s d.chosen).waits
-
-pub took_of : (T : Table) (id n : ℕ) (t : Thread) (i : Instance) → IsSorted T.waiting → IsDue T id n → thread_of T id ≡ Some t → instance_in T.waiting n ≡ Some i → Took T id n t i
-took_of T id n t i s d e f =
-    let p : d.thread ≡ t = same_Some d.thread t (sym d.there ∙ e) in
-    let q : d.instance ≡ i = same_Some d.instance i (sym (waits_there T id n s d) ∙ f) in
-    subst (λ z. Took T id n z i) p (subst (λ z. Took T id n d.thread z) q (took_is T id n s d))
-
 -- what the model says of the entry
 abbrev pub numbered_outcome : Table → ℕ → ℕ → Outcome
 numbered_outcome T id n = record { reply = Steps.took_reply T (thread_of T id) (instance_in T.waiting n); work = complete_group_stops (at id (take_numbered n) (begin T)) }
@@ -85,9 +61,43 @@ numbered_outcome T id n = record { reply = Steps.took_reply T (thread_of T id) (
 joined : (r q : Reply) (v w : Work) → r ≡ q → v ≡ w → ◌≡◌ {A = Outcome} (record { reply = r; work = v }) (record { reply = q; work = w })
 joined r q v w e f = ap (λ (x : Reply). record { reply = x; work = v }) e ∙ ap (λ (x : Work). record { reply = q; work = x }) f
 
-pub outcome_is : (T : Table) (id n : ℕ) (t : Thread) (i : Instance) → thread_of T id ≡ Some t → instance_in T.waiting n ≡ Some i → Took T id n t i → take_outcome T t i ≡ numbered_outcome T id n
-outcome_is T id n t i e f k = joined _ _ _ _ (sym (ap (λ o. Steps.took_reply T o (instance_in T.waiting n)) e ∙ ap (λ o. Steps.took_reply T (Some t) o) f)) (ap complete_group_stops (sym k.does))
+pub record Took (T : Table) (id n : ℕ) (t : Thread) (w : Waiting) : Type 0 where
+  pub takes : Takes T t w.instance
+  pub outcome : take_outcome T t w.instance ≡ numbered_outcome T id n
+  pub queue : queue_of (taken_by T (thread_of T id) n) ≡ Some w.target
 
--- a step that came to this came to whatever is equal
-pub comes_as : {E : Type 0} (r : Result Reply E) (o p : Outcome) (q s : Option Target) (u : UnderWay) → o ≡ p → q ≡ s → IfOk r (ComesTo o q u) → IfOk r (ComesTo p s u)
-comes_as r o p q s u e f h = subst (λ x. IfOk r (ComesTo x s u)) e (subst (λ x. IfOk r (ComesTo o x u)) f h)
+took_of : (T : Table) (id n : ℕ) (t : Thread) (w : Waiting) → IsSorted T.waiting → IsDue T id n → thread_of T id ≡ Some t → waiting_in T.waiting n ≡ Some w → Took T id n t w
+took_of T id n t w s d e f =
+    let b = chosen_is T d.thread n d.instance s d.chosen in
+    let does : at id (take_numbered n) (begin T) ≡ take d.thread d.instance (begin T)
+    = ap (λ o. on_thread o (take_numbered n) (begin T)) d.there ∙ ap (λ o. on_instance o (take d.thread) (begin T)) d.chosen in
+    let row : Waiting = record { instance = d.instance; target = b.from } in
+    let k : Took T id n d.thread row = record {
+      takes = record { there = itself T.threads id d.thread d.there; free = b.free; waits = ap (instance_in T.waiting) b.number ∙ b.waits };
+      outcome = joined _ _ _ _ (sym (ap₂ (Steps.took_reply T) d.there b.waits)) (ap complete_group_stops (sym does));
+      queue = ap (λ o. queue_of (taken_by T o n)) d.there ∙ ap queue_of b.taken;
+    } in
+    subst (λ z. Took T id n z w) (same_Some d.thread t (sym d.there ∙ e)) (subst (λ z. Took T id n d.thread z) (same_Some row w (sym b.there ∙ f)) k)
+
+-- What both takes do, with the answers of `find` and `waiting`
+
+module _ {T U : Table} {id n : ℕ} (d : IsDue T id n) (here : U ≡ T) where
+  pub finds_thread : (o : Option (Bor Thread)) → option_copied o ≡ thread_of U id → IsSome o
+  finds_thread o e = let there : option_copied o ≡ Some d.thread = e ∙ (ap (λ V. thread_of V id) here ∙ d.there) in search rules
+
+  pub finds_waiting : (o : Option (Bor Waiting)) → IsSorted U.waiting → option_copied o ≡ waiting_in U.waiting n → IsSome o
+  finds_waiting o s e =
+      let b = chosen_is T d.thread n d.instance (subst (λ V. IsSorted V.waiting) here s) d.chosen in
+      let there : option_copied o ≡ Some (record { instance = d.instance; target = b.from }) = e ∙ (ap (λ V. waiting_in V.waiting n) here ∙ b.there) in
+      search rules
+
+  -- what is found is what the thread takes
+  pub took : {t : Thread} {w : Waiting} → IsSorted U.waiting → thread_of U id ≡ Some t → waiting_in U.waiting n ≡ Some w → Took T id n t w
+  took s e f =
+      took_of T id n _ _ (subst (λ V. IsSorted V.waiting) here s) d (ap (λ V. thread_of V id) (sym here) ∙ e) (ap (λ V. waiting_in V.waiting n) (sym here) ∙ f)
+
+-- a step that came to what the thread takes is the step of the entry
+pub comes_as : {E : Type 0} {T : Table} {id n : ℕ} {t : Thread} {w : Waiting} (r : Result Reply E) (u : UnderWay) → Took T id n t w → IfOk r (ComesTo (take_outcome T t w.instance) (Some w.target) u)
+    → IfOk r (ComesTo (numbered_outcome T id n) (queue_of (taken_by T (thread_of T id) n)) u)
+comes_as {T = T} {id = id} {n = n} {t = t} {w = w} r u k h =
+    subst (λ o. IfOk r (ComesTo o (queue_of (taken_by T (thread_of T id) n)) u)) k.outcome (subst (λ q. IfOk r (ComesTo (take_outcome T t w.instance) q u)) (sym k.queue) h)

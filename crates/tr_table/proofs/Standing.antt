@@ -1,5 +1,5 @@
 -- Slots in order of acceptance: where a number stands, and what still waits.
-use Rattle.std.proofs.Common.{◌≡◌, ◌≢◌, ◌∙◌, ◌+◌, ◌<◌, ◌≤◌, ◌-◌, ◌==◌, ◌||◌, ℕ, zero, suc, List, [], ◌∷◌, ◌++◌, Bool, true, false, Result, Ok, Err, Option, Some, None, IfNone, IfSome, if◌then◌else◌, get_or, set, take, drop, filter, length, map, not, refl, sym, ap, subst, arith, inl, inr}
+use Rattle.std.proofs.Common.{◌≡◌, ◌≢◌, ◌∙◌, ◌+◌, ◌<◌, ◌≤◌, ◌-◌, ◌==◌, ◌||◌, ℕ, zero, suc, List, [], ◌∷◌, ◌++◌, Bool, true, false, Result, Ok, Err, Option, Some, None, IfNone, IfSome, if◌then◌else◌, get_or, option_map, set, take, drop, filter, length, map, not, refl, sym, ap, subst, arith, inl, inr}
 use Rattle.std.specs.List.Sorted.{IsSearchInRange, IsBinarySearchResult, IsNonDecreasingBy}
 use Rattle.std.specs.Result.{result_ok}
 use Rattle.std.specs.Ordering.{nat_cmp, ordering_index}
@@ -9,10 +9,10 @@ use Rattle.std.proofs.lemmas.Cmp.{ranked}
 use Rattle.std.proofs.lemmas.List.{append-nil, length-append, length-drop, map-append, take-append-drop, take_more}
 use Rattle.std.proofs.Math.Seq.{take-length}
 use Rattle.std.proofs.lemmas.List.Sorted.{IsNonDecreasingBy-from_default}
-use Rattle.tr_pending.specs.declared.instance.Instance.{Instance}
 use Rattle.tr_model.specs.declared.rows.Waiting.{Waiting}
 use Rattle.tr_model.specs.Journals.{AllAbove, IsSorted}
 use Rattle.tr_model.specs.Moves.{instance_in, retargeted, without_instance}
+use Rattle.tr_table.specs.Choices.{waiting_in}
 use Rattle.tr_table.specs.declared.slots.Slot.{Slot}
 use Rattle.tr_table.specs.Queues.{AllBelow}
 use Rattle.tr_table.specs.Slots.{IsTrimmed, all_in, emptied, retargeted_slot, standing, without_picked}
@@ -34,11 +34,11 @@ rising (s ∷ ss) d h i zero lt within = absurd (omega (arith, lt))
 rising (s ∷ ss) d h zero (suc j) lt within = above_place (number s) ss d j (omega (arith, within)) h.0
 rising (s ∷ ss) d h (suc i) (suc j) lt within = rising ss d h.1 i j (omega (arith, lt)) (omega (arith, within))
 
-absent : (ss : List Slot) (d : Slot) (n : ℕ) → ((j : ℕ) → j < length ss → number (get_or ss j d) ≢ n) → instance_in (all_in ss) n ≡ None
+absent : (ss : List Slot) (d : Slot) (n : ℕ) → ((j : ℕ) → j < length ss → number (get_or ss j d) ≢ n) → waiting_in (all_in ss) n ≡ None
 absent [] d n h = refl
 absent (s ∷ ss) d n h = elim (eqb_tells (number s) n) [
   | inl same ↦ absurd (h 0 (omega arith) same.1)
-  | inr apart ↦ ap (λ b. if b then Some s.waiting.instance else instance_in (all_in ss) n) apart.0 ∙ absent ss d n (λ j within. h (suc j) (omega (arith, within)))
+  | inr apart ↦ ap (λ b. if b then Some s.waiting else waiting_in (all_in ss) n) apart.0 ∙ absent ss d n (λ j within. h (suc j) (omega (arith, within)))
 ]
 
 module _ (ss : List Slot) (sorted : IsSorted (all_in ss)) (n : ℕ) where
@@ -48,7 +48,7 @@ module _ (ss : List Slot) (sorted : IsSorted (all_in ss)) (n : ℕ) where
       grind (arith, nat_tests, up))
 
   -- a binary search by number ends at the number, or where none is
-  pub searched : (r : Result ℕ ℕ) → IsSearchInRange r (length ss) → IsBinarySearchResult (λ s. nat_cmp (number s) n) ss r → (d : Slot) → elim r as (λ _. Type 0) [ Ok i ↦ (i < length ss) × (number (get_or ss i d) ≡ n) | Err i ↦ instance_in (all_in ss) n ≡ None ]
+  pub searched : (r : Result ℕ ℕ) → IsSearchInRange r (length ss) → IsBinarySearchResult (λ s. nat_cmp (number s) n) ss r → (d : Slot) → elim r as (λ _. Type 0) [ Ok i ↦ (i < length ss) × (number (get_or ss i d) ≡ n) | Err i ↦ waiting_in (all_in ss) n ≡ None ]
   searched (Ok i) within equal d = (within, ranked _ n _ (sym (equal d)))
   searched (Err i) within parted d = absent ss d n (λ j lt same. elim (cases_lt j i) [
     | inl before ↦ let less = ranked _ n _ (sym ((parted (rise d)).0 j d (omega arith) before)) in omega (arith, less, same)
@@ -61,64 +61,73 @@ pub place_found : (ss : List Slot) → IsSorted (all_in ss) → (n : ℕ) (r : R
 place_found ss sorted n (Ok i) within is = λ d. (searched ss sorted n (Ok i) within is d).1
 place_found ss sorted n (Err i) within is = tt
 
-pub place_none : (ss : List Slot) → IsSorted (all_in ss) → (n : ℕ) (r : Result ℕ ℕ) → IsSearchInRange r (length ss) → IsBinarySearchResult (λ s. nat_cmp (number s) n) ss r → IfNone (result_ok r) (instance_in (all_in ss) n ≡ None)
+pub place_none : (ss : List Slot) → IsSorted (all_in ss) → (n : ℕ) (r : Result ℕ ℕ) → IsSearchInRange r (length ss) → IsBinarySearchResult (λ s. nat_cmp (number s) n) ss r → IfNone (result_ok r) (waiting_in (all_in ss) n ≡ None)
 place_none ss sorted n (Ok i) within is = tt
 place_none [] sorted n (Err i) within is = refl
 place_none (s ∷ ss) sorted n (Err i) within is = searched (s ∷ ss) sorted n (Err i) within is s
 
+-- the instance with a number is that of what waits with it
+pub instance_waiting : (ws : List Waiting) (n : ℕ) → instance_in ws n ≡ option_map (λ w. w.instance) (waiting_in ws n)
+instance_waiting [] n = refl
+instance_waiting (w ∷ ws) n = go (w.instance.n == n) (instance_waiting ws n)
+  where
+    go : (b : Bool) → instance_in ws n ≡ option_map (λ w. w.instance) (waiting_in ws n) → (if b then Some w.instance else instance_in ws n) ≡ option_map (λ w. w.instance) (if b then Some w else waiting_in ws n)
+    go true h = refl
+    go false h = h
+
 -- none that has gone waits, and what waits stands there
 
-none_here : (n m : ℕ) (x : Option Instance) (i : Instance) → (if m == n then Some i else x) ≡ None → x ≡ None
-none_here n m x i h = go (m == n) h
+none_here : (n m : ℕ) (x : Option Waiting) (w : Waiting) → (if m == n then Some w else x) ≡ None → x ≡ None
+none_here n m x w h = go (m == n) h
   where
-    go : (b : Bool) → (if b then Some i else x) ≡ None → x ≡ None
+    go : (b : Bool) → (if b then Some w else x) ≡ None → x ≡ None
     go true h = cc
     go false h = h
 
-none_first : (n m : ℕ) (x : Option Instance) (i : Instance) → (if m == n then Some i else x) ≡ None → (y : Option Instance) → y ≡ None → (if m == n then Some i else y) ≡ None
-none_first n m x i h y e = go (m == n) h
+none_first : (n m : ℕ) (x : Option Waiting) (w : Waiting) → (if m == n then Some w else x) ≡ None → (y : Option Waiting) → y ≡ None → (if m == n then Some w else y) ≡ None
+none_first n m x w h y e = go (m == n) h
   where
-    go : (b : Bool) → (if b then Some i else x) ≡ None → (if b then Some i else y) ≡ None
+    go : (b : Bool) → (if b then Some w else x) ≡ None → (if b then Some w else y) ≡ None
     go true h = cc
     go false h = e
 
-pub none_standing : (ss : List Slot) (n : ℕ) → instance_in (all_in ss) n ≡ None → instance_in (standing ss) n ≡ None
+pub none_standing : (ss : List Slot) (n : ℕ) → waiting_in (all_in ss) n ≡ None → waiting_in (standing ss) n ≡ None
 none_standing [] n h = refl
-none_standing (s ∷ ss) n h = go s.gone (none_standing ss n (none_here n (number s) _ s.waiting.instance h))
+none_standing (s ∷ ss) n h = go s.gone (none_standing ss n (none_here n (number s) _ s.waiting h))
   where
-    go : (b : Bool) → instance_in (standing ss) n ≡ None → instance_in (if b then standing ss else s.waiting ∷ standing ss) n ≡ None
+    go : (b : Bool) → waiting_in (standing ss) n ≡ None → waiting_in (if b then standing ss else s.waiting ∷ standing ss) n ≡ None
     go true rest = rest
-    go false rest = none_first n (number s) _ s.waiting.instance h _ rest
+    go false rest = none_first n (number s) _ s.waiting h _ rest
 
-none_above : (ss : List Slot) (n : ℕ) → AllAbove n (all_in ss) → instance_in (standing ss) n ≡ None
+none_above : (ss : List Slot) (n : ℕ) → AllAbove n (all_in ss) → waiting_in (standing ss) n ≡ None
 none_above [] n h = refl
 none_above (s ∷ ss) n h = go s.gone (none_above ss n h.1)
   where
-    go : (b : Bool) → instance_in (standing ss) n ≡ None → instance_in (if b then standing ss else s.waiting ∷ standing ss) n ≡ None
+    go : (b : Bool) → waiting_in (standing ss) n ≡ None → waiting_in (if b then standing ss else s.waiting ∷ standing ss) n ≡ None
     go true rest = rest
     go false rest =
         let other : (number s == n) ≡ false = grind (arith, nat_tests, h.0) in
-        ap (λ b. if b then Some s.waiting.instance else instance_in (standing ss) n) other ∙ rest
+        ap (λ b. if b then Some s.waiting else waiting_in (standing ss) n) other ∙ rest
 
--- what stands at a place, given its number
-pub at_place : (ss : List Slot) (d : Slot) (n i : ℕ) → IsSorted (all_in ss) → i < length ss → number (get_or ss i d) ≡ n → instance_in (standing ss) n ≡ (if (get_or ss i d).gone then None else Some (get_or ss i d).waiting.instance)
+-- what waits at a place, given its number
+pub at_place : (ss : List Slot) (d : Slot) (n i : ℕ) → IsSorted (all_in ss) → i < length ss → number (get_or ss i d) ≡ n → waiting_in (standing ss) n ≡ (if (get_or ss i d).gone then None else Some (get_or ss i d).waiting)
 at_place [] d n i h within e = absurd (omega (arith, within))
 at_place (s ∷ ss) d n zero h within e = go s.gone
   where
     same : (number s == n) ≡ true
     same = grind (arith, nat_tests, e)
 
-    go : (b : Bool) → instance_in (if b then standing ss else s.waiting ∷ standing ss) n ≡ (if b then None else Some s.waiting.instance)
+    go : (b : Bool) → waiting_in (if b then standing ss else s.waiting ∷ standing ss) n ≡ (if b then None else Some s.waiting)
     go true = none_above ss n (subst (λ m. AllAbove m (all_in ss)) e h.0)
-    go false = ap (λ b. if b then Some s.waiting.instance else instance_in (standing ss) n) same
+    go false = ap (λ b. if b then Some s.waiting else waiting_in (standing ss) n) same
 at_place (s ∷ ss) d n (suc i) h within e = go s.gone ∙ at_place ss d n i h.1 (omega (arith, within)) e
   where
     other : (number s == n) ≡ false
     other = let less = above_place (number s) ss d i (omega (arith, within)) h.0 in grind (arith, nat_tests, less, e)
 
-    go : (b : Bool) → instance_in (if b then standing ss else s.waiting ∷ standing ss) n ≡ instance_in (standing ss) n
+    go : (b : Bool) → waiting_in (if b then standing ss else s.waiting ∷ standing ss) n ≡ waiting_in (standing ss) n
     go true = refl
-    go false = ap (λ b. if b then Some s.waiting.instance else instance_in (standing ss) n) other
+    go false = ap (λ b. if b then Some s.waiting else waiting_in (standing ss) n) other
 
 -- what waits is in order too
 
@@ -172,11 +181,11 @@ without_mid (x ∷ A) B w h =
     let other : (x.instance.n == w.instance.n) ≡ false = grind (arith, nat_tests, less) in
     ap (λ b. if b then A ++ w ∷ B else x ∷ without_instance w.instance.n (A ++ w ∷ B)) other ∙ ap (λ vs. x ∷ vs) (without_mid A B w h.1)
 
-pub without_other : (ws : List Waiting) (n : ℕ) → instance_in ws n ≡ None → ws ≡ without_instance n ws
+pub without_other : (ws : List Waiting) (n : ℕ) → waiting_in ws n ≡ None → ws ≡ without_instance n ws
 without_other [] n h = refl
 without_other (w ∷ ws) n h = go (w.instance.n == n) h (without_other ws n)
   where
-    go : (b : Bool) → (if b then Some w.instance else instance_in ws n) ≡ None → (instance_in ws n ≡ None → ws ≡ without_instance n ws) → w ∷ ws ≡ (if b then ws else w ∷ without_instance n ws)
+    go : (b : Bool) → (if b then Some w else waiting_in ws n) ≡ None → (waiting_in ws n ≡ None → ws ≡ without_instance n ws) → w ∷ ws ≡ (if b then ws else w ∷ without_instance n ws)
     go true h rest = cc
     go false h rest = ap (λ vs. w ∷ vs) (rest h)
 

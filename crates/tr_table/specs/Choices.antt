@@ -1,4 +1,4 @@
--- Where a pending instance waits, and which ones a thread may take from a queue.
+-- What waits with a number, and which instances a thread may take from a queue.
 use Rattle.std.specs.Prelude.{ℕ, ◌==◌, ◌&&◌, List, [], ◌∷◌, Bool, not, Option, Some, None, if◌then◌else◌}
 use Rattle.std.specs.List.{list_all}
 use Rattle.tr_sigset.specs.declared.sets.SigSet.{SigSet}
@@ -12,10 +12,10 @@ use Rattle.tr_table.specs.declared.slots.Slot.{Slot}
 use Rattle.tr_table.specs.Changes.{queue_in}
 use Rattle.tr_table.specs.Slots.{standing}
 
--- the queue that the instance with the number waits in
-abbrev pub target_in : List Waiting → ℕ → Option Target
-target_in [] n = None
-target_in (q ∷ qs) n = if q.instance.n == n then Some q.target else target_in qs n
+-- the first that waits with the number
+abbrev pub waiting_in : List Waiting → ℕ → Option Waiting
+waiting_in [] n = None
+waiting_in (q ∷ qs) n = if q.instance.n == n then Some q else waiting_in qs n
 
 -- its instance still waits for the target, and isn't blocked
 abbrev pub is_open : Target → SigSet → Slot → Bool

@@ -1,10 +1,8 @@
-ghost use Rattle.std.specs.Prelude.{◌≡◌, ◌+◌, ◌<◌, ◌≤◌, ◌^◌, ◌++◌, ◌==◌, ◌∷◌, [], IsTrue, OnErr, OnOk, filter, flat_map, length, map, not, vec_len, vec_capacity, nat_le};
+ghost use Rattle.std.specs.Prelude.{◌≡◌, ◌+◌, ◌<◌, ◌≤◌, ◌^◌, ◌++◌, ◌==◌, ◌∷◌, [], OnErr, OnOk, filter, flat_map, length, map, not, vec_len, vec_capacity, nat_le};
 ghost use Rattle.tr_model.specs.declared.fates.Fate.TheVariants.{Delivered, Flushed};
 ghost use Rattle.tr_model.specs.declared.rows.Target.TheVariants as target;
-ghost use Rattle.tr_model.specs.Moves.{changed, ended_by_change, ending_of, group_changed, instance_in, only_group, with_note, without_instance};
+ghost use Rattle.tr_model.specs.Moves.{changed, ended_by_change, ending_of, group_changed, only_group, with_note, without_instance};
 ghost use Rattle.tr_model.specs.Tables.{Table};
-ghost use Rattle.tr_model.specs.Tables.{action_of, all_dead, has_live, has_stop_mark, has_traced, members, owner, queue, stop_of, end_of, group_of, thread_of};
-ghost use Rattle.tr_pending.specs.Waiting.{best_of, is_waiting};
 ghost use Rattle.tr_tracee.specs.Threads.{at_group, at_thread};
 ghost use Rattle.tr_table.specs.Changes.{group_changed_by, is_flushed, thread_changed_by};
 ghost use Rattle.tr_table.specs.Held.{held_count};
@@ -23,8 +21,6 @@ use tr_wait::Status;
 // What happens to a table, one list at a time. Only `reserve` takes memory.
 
 impl Table {
-    ghost use Rattle.tr_table.specs.View.{View};
-
     /// Whether so many places are reserved.
     pub fn has_room(&self, places: usize) -> bool
         ensures { result ≡ nat_le places self.now.room }

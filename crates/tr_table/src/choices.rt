@@ -4,7 +4,6 @@ ghost use Rattle.tr_model.specs.Steps.{is_new};
 ghost use Rattle.tr_model.specs.Tables.{queue};
 ghost use Rattle.tr_model.specs.Takes.{choices_in, goes_before, unblocked};
 ghost use Rattle.tr_table.specs.Choices.{goes_first, is_choice, is_open, open_in};
-ghost use Rattle.tr_table.specs.Slots.{standing};
 
 use crate::free_ids::is_new;
 use crate::picked::same_target;

@@ -1,13 +1,9 @@
-ghost use Rattle.std.specs.Prelude.{◌≡◌, ◌+◌, ◌-◌, ◌==◌, ◌||◌, filter, is_some, length, map, not, option_copied, position, slice_index_or};
-ghost use Rattle.std.specs.List.{list_any};
-ghost use Rattle.tr_tracee.specs.Threads.{in_group};
+ghost use Rattle.std.specs.Prelude.{◌≡◌, ◌-◌, filter, is_some, length, map, slice_index_or};
 ghost use Rattle.tr_group.specs.Actions.{reset};
 ghost use Rattle.tr_group.specs.GroupStops.{is_stopping};
 ghost use Rattle.tr_group.specs.declared.stops.Action.TheVariants.{Default};
-ghost use Rattle.tr_model.specs.Moves.{group_changed, only_group, with_note};
 ghost use Rattle.tr_model.specs.Tables.{actions_of, end_of, group_in, stop_of};
 ghost use Rattle.tr_table.specs.Changes.{group_changed_by};
-ghost use Rattle.tr_table.specs.Private.{IsGroupPlace};
 
 use crate::group_list::Groups;
 use tr_group::{Action, GroupStop};

@@ -1,4 +1,4 @@
-ghost use Rattle.std.specs.Prelude.{◌≡◌, ℕ, ◌+◌, ◌<◌, ◌≤◌, ◌==◌, [], OnErr, OnOk, is_some, length, nat_lt, not};
+ghost use Rattle.std.specs.Prelude.{◌≡◌, ℕ, ◌+◌, ◌<◌, ◌≤◌, ◌==◌, [], OnOk, is_some, length, nat_lt, not};
 ghost use Rattle.tr_model.specs.Journals.{occurs};
 ghost use Rattle.tr_table.specs.Held.{bool_to_nat};
 ghost use Rattle.tr_table.specs.Tracing.{is_number};

@@ -1,4 +1,4 @@
-ghost use Rattle.std.specs.Prelude.{◌≡◌, ℕ, ◌==◌, ◌<◌, ◌≤◌, ◌/◌, ◌%◌, [], OnOk, if◌then◌else◌, get_or, length, set};
+ghost use Rattle.std.specs.Prelude.{◌≡◌, ℕ, ◌==◌, ◌<◌, ◌/◌, ◌%◌, [], OnOk, if◌then◌else◌, get_or, length, set};
 ghost use Rattle.tr_table.specs.Pages.{IsOpen, number_at};
 
 use std::alloc::{AllocError, Global};

@@ -1,11 +1,11 @@
-ghost use Rattle.std.specs.Prelude.{◌≡◌, ◌==◌, ◌+◌, ◌*◌, ◌<◌, ◌≤◌, ◌++◌, ◌∷◌, [], OnErr, OnOk, false, filter, get_or, length, map, not, option_map, set, vec_capacity, vec_len};
+ghost use Rattle.std.specs.Prelude.{◌≡◌, ◌==◌, ◌+◌, ◌*◌, ◌<◌, ◌≤◌, ◌++◌, ◌∷◌, [], OnErr, OnOk, false, filter, get_or, length, map, not, option_copied, option_map, set, vec_capacity, vec_len};
 ghost use Rattle.indexmap.specs.IndexMap.{index_map_len};
 ghost use Rattle.std.specs.List.{list_any};
 ghost use Rattle.tr_model.specs.declared.fates.Fate.TheVariants.{Flushed};
 ghost use Rattle.tr_model.specs.declared.rows.Target.TheVariants as target;
 ghost use Rattle.tr_model.specs.Moves.{ending_of, instance_in, retargeted, without_instance};
 ghost use Rattle.tr_pending.specs.Waiting.{IsMask, best_of, first_of, is_waiting};
-ghost use Rattle.tr_table.specs.Choices.{target_in};
+ghost use Rattle.tr_table.specs.Choices.{waiting_in};
 ghost use Rattle.tr_table.specs.Changes.{holds, is_flushed, is_picked, queue_in};
 ghost use Rattle.tr_table.specs.Lines.{IsQueue, line_at};
 ghost use Rattle.tr_table.specs.Queues.{AllBelow, count_own, own_share, without_one};
@@ -161,10 +161,7 @@ impl Pending {
     #[inline(always)]
     pub(crate) fn waiting(&self, n: u64) -> Option<&Waiting>
         requires { IsPending self.now }
-        ensures instance { option_map (λ w. w.now.instance) result
-            ≡ instance_in (standing self.now.slots.items) n }
-        ensures queue { option_map (λ w. w.now.target) result
-            ≡ target_in (standing self.now.slots.items) n }
+        ensures waiting { option_copied result ≡ waiting_in (standing self.now.slots.items) n }
     {
         let place = place_of(&self.slots, n)?;
         let slot = &self.slots[place];
@@ -204,7 +201,7 @@ impl Pending {
         }
     }
 
-    /// Its number.
+    /// The number of the first instance of the least signal number that isn't blocked, of those that wait for the target.
     #[inline(always)]
     pub(crate) fn best_number(&self, target: Target, blocked: SigSet) -> Option<u64>
         requires { IsPending self.now }

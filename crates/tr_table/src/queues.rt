@@ -15,8 +15,6 @@ use tr_sigset::{SigSet, Signal};
 // The queue of one thread or of one group, as `Queue` has it. No call here takes memory: `reserve` does.
 
 impl Table {
-    ghost use Rattle.tr_table.specs.View.{View};
-
     /// How many instances wait for the target.
     pub fn queue_len(&self, target: Target) -> usize
         ensures { result ≡ length (queue self.now.table target) }

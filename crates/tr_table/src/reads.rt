@@ -1,13 +1,12 @@
-ghost use Rattle.std.specs.Prelude.{◌≡◌, ◌<◌, ◌&&◌, length, map, option_copied, option_map, slice_get, slice_index};
+ghost use Rattle.std.specs.Prelude.{◌≡◌, ◌<◌, ◌&&◌, length, option_copied, option_map, slice_get, slice_index};
 ghost use Rattle.std.specs.List.{list_any};
 ghost use Rattle.tr_sigset.specs.Sets.{has};
 ghost use Rattle.tr_tracee.specs.Lives.{is_live};
 ghost use Rattle.tr_pending.specs.Waiting.{best_of, is_waiting};
 ghost use Rattle.tr_model.specs.Journals.{IsSorted};
-ghost use Rattle.tr_model.specs.Moves.{instance_in};
 ghost use Rattle.tr_model.specs.Tables.{action_of, all_dead, end_of, group_of, has_live, has_stop_mark, has_traced, members, others_dead, owner, queue, stop_of};
 ghost use Rattle.tr_table.specs.Changes.{tgids};
-ghost use Rattle.tr_table.specs.Choices.{target_in};
+ghost use Rattle.tr_table.specs.Choices.{waiting_in};
 
 use crate::groups::{action_in, end_in, stop_in};
 use crate::table::Table;
@@ -128,7 +127,7 @@ impl Table {
         self.pending.best(target, blocked)
     }
 
-    /// The number of that instance.
+    /// The number of the first instance of the least signal number that isn't blocked, of those that wait for the target.
     #[inline(always)]
     pub fn best_number(&self, target: Target, blocked: SigSet) -> Option<u64>
         ensures { result ≡ option_map (λ i. i.n) (best_of blocked (queue self.now.table target)) }
@@ -139,10 +138,7 @@ impl Table {
     /// The pending instance of a number, with the queue that it waits in.
     #[inline(always)]
     pub fn waiting(&self, n: u64) -> Option<&Waiting>
-        ensures instance { option_map (λ w. w.now.instance) result
-            ≡ instance_in self.now.table.waiting n }
-        ensures queue { option_map (λ w. w.now.target) result
-            ≡ target_in self.now.table.waiting n }
+        ensures waiting { option_copied result ≡ waiting_in self.now.table.waiting n }
         ensures sorted { IsSorted self.now.table.waiting }
     {
         self.pending.waiting(n)

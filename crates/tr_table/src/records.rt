@@ -13,8 +13,6 @@ use tr_tracee::Thread;
 // Records that come, go or are written anew. Only `add` takes memory.
 
 impl Table {
-    ghost use Rattle.tr_table.specs.View.{View};
-
     /// A thread comes last in the table. No thread may have its id yet, and its group at most 63 threads. Where memory is
     /// refused nothing has changed.
     pub fn add(&mut self, thread: &Thread) -> Result<(), AllocError>

@@ -1,6 +1,7 @@
 ghost use Rattle.std.specs.Prelude.{◌≡◌, ◌<◌, IfNone, IfOk, ◌≤◌, IfSome, None, ◌-◌, false, get_or, length, map, take, true, vec_capacity, vec_len};
 ghost use Rattle.tr_model.specs.Journals.{IsSorted};
-ghost use Rattle.tr_model.specs.Moves.{instance_in, retarget};
+ghost use Rattle.tr_model.specs.Moves.{retarget};
+ghost use Rattle.tr_table.specs.Choices.{waiting_in};
 ghost use Rattle.tr_table.specs.Slots.{IsTrimmed, all_in, retargeted_slot, standing};
 ghost use Rattle.tr_table.specs.declared.slots.Slot.{Slot};
 
@@ -20,7 +21,7 @@ pub(crate) fn place_of(slots: &[Slot], n: u64) -> Option<usize>
     ensures within { IfSome result (λ i. i < length slots.now) }
     ensures found { IfSome result
         (λ i. (s : Slot) → (get_or slots.now i s).waiting.instance.n ≡ n) }
-    ensures none { IfNone result (instance_in (all_in slots.now) n ≡ None) }
+    ensures none { IfNone result (waiting_in (all_in slots.now) n ≡ None) }
 {
     if let Some(place) = place_in_row(slots, n) {
         return Some(place);

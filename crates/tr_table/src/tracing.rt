@@ -1,4 +1,4 @@
-ghost use Rattle.std.specs.Prelude.{List, ◌≡◌, ◌==◌, ℕ, ◌+◌, ◌<◌, ◌≤◌, ◌++◌, ◌∷◌, [], OnOk, false, filter, get_or, length, not, remove, slice_set, vec_capacity, vec_len};
+ghost use Rattle.std.specs.Prelude.{List, ◌≡◌, ◌==◌, ℕ, ◌+◌, ◌<◌, ◌≤◌, ◌++◌, ◌∷◌, [], OnOk, false, filter, get_or, length, not, remove, slice_set, vec_capacity};
 ghost use Rattle.std.specs.List.Sorted.{IsPartitionedBy};
 ghost use Rattle.tr_tracee.specs.declared.thread.Thread.{Thread};
 ghost use Rattle.tr_model.specs.Journals.{occurs};

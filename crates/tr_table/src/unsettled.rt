@@ -116,6 +116,9 @@ impl Table {
     fn shows_note(&self, tgid: u32) -> bool
         ensures { result ≡ shows_note self.now.table.threads self.now.table.groups tgid }
     {
+        if !self.groups.has_notes() {
+            return false;
+        }
         some_noted(self.groups.with_id(tgid)) && !self.threads.has_traced(tgid)
     }
 

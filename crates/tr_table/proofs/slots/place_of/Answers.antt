@@ -1,6 +1,6 @@
 use Rattle.std.proofs.Common.{◌≡◌, None, IfNone, IfSome, get_or, rules, subst, sym}
 use Rattle.std.proofs.lemmas.List.Sorted.{answers_always}
-use Rattle.tr_model.specs.Moves.{instance_in}
+use Rattle.tr_table.specs.Choices.{waiting_in}
 use Rattle.tr_table.specs.declared.slots.Slot.{Slot}
 use Rattle.tr_table.specs.Slots.{all_in}
 use Rattle.tr_table.proofs.Standing.{number, place_found, place_none}
@@ -16,4 +16,4 @@ pub returns-clause-none : goal.returns-clause-none
 returns-clause-none c =
     let facts = c.binary_search_by_key.ensures in
     let by = facts.position number (answers_always _ _ _ (λ f a r g called. search rules)) in
-    subst (λ r. IfNone r (instance_in (all_in c.args.slots.now) c.args.n ≡ None)) (sym c.ok.ensures.value) (place_none c.args.slots.now c.requires c.args.n c.binary_search_by_key.result facts.bound by)
+    subst (λ r. IfNone r (waiting_in (all_in c.args.slots.now) c.args.n ≡ None)) (sym c.ok.ensures.value) (place_none c.args.slots.now c.requires c.args.n c.binary_search_by_key.result facts.bound by)

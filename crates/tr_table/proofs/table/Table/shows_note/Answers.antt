@@ -1,11 +1,16 @@
-use Rattle.std.proofs.Common.{◌≡◌, ◌∙◌, ◌==◌, ◌&&◌, Bool, ap, filter, is_some, not, subst, sym}
+use Rattle.std.proofs.Common.{rules, ◌≡◌, ◌∙◌, ◌==◌, ◌&&◌, Bool, ap, false, filter, is_some, not, subst, sym}
 use Rattle.std.specs.List.{list_any}
 use Rattle.tr_tracee.specs.Threads.{in_group, is_traced}
 use Rattle.tr_model.specs.declared.rows.Group.{Group}
 use Rattle.tr_table.specs.Settled.{shows_note}
 use Rattle.tr_table.specs.View.{View}
-use Rattle.tr_table.proofs.Unsettling.{noted}
+use Rattle.tr_table.proofs.Unsettling.{noted, noteless}
 use Rattle.tr_table.proofs.table.Table.shows_note.Goals as goal
+
+pub returns-then-not-has_notes : goal.returns-then-not-has_notes
+returns-then-not-has_notes c =
+    let none : list_any (λ (x : Group). is_some x.note) c.self.inside.groups ≡ false = search rules in
+    subst (λ (v : View). false ≡ shows_note v.table.threads v.table.groups c.args.tgid) c.self.view_is (sym (noteless c.self.inside.threads _ none c.args.tgid))
 
 pub returns-then-some_noted : goal.returns-then-some_noted
 returns-then-some_noted c =
