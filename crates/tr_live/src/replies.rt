@@ -1,4 +1,4 @@
-ghost use Rattle.std.specs.Prelude.{◌≡◌, ◌≢◌, ◌<◌, ◌-◌, ◌^◌, ℕ, List, ◌++◌, [], IfErr, IfOk, MatchOption, None, OnOk, Some, codes, option_map};
+ghost use Rattle.std.specs.Prelude.{◌≡◌, ◌≢◌, ◌<◌, ◌-◌, ◌^◌, ℕ, List, ◌++◌, [], IfErr, IfOk, None, OnOk, Some, option_map};
 ghost use Rattle.tr_model.specs.Tables.{thread_of};
 ghost use Rattle.tr_scenario.specs.declared.faults.ScenarioFault.TheVariants.{NoMemory};
 ghost use Rattle.tr_scenario.specs.Lines.{totals_line};

@@ -1,4 +1,4 @@
-ghost use Rattle.std.specs.Prelude.{◌≡◌, ◌++◌, [], IfOk, None, OnOk, Some, codes};
+ghost use Rattle.std.specs.Prelude.{◌≡◌, ◌++◌, [], IfOk, None, OnOk, Some};
 ghost use Rattle.std.specs.List.{list_all};
 ghost use Rattle.tr_table.specs.Starts.{is_good_group};
 ghost use Rattle.tr_mistakes.specs.Wholes.{actions_mistake, acts_once, again, bad_group, bad_id, bad_ids, bad_tid, first_bad, groups_mistake, has_good_ids, is_good_thread, large_mistake, start_mistake, started_twice, twice_mistake, whole_mistake};

@@ -6,7 +6,6 @@ ghost use Rattle.tr_picture.specs.Drawn.{Drawn, actor_head, actor_heads, blank, 
 ghost use Rattle.tr_picture.specs.declared.styles.Style.TheVariants.{Ink};
 ghost use Rattle.tr_picture.specs.Elements.{printed, words};
 ghost use Rattle.tr_picture.specs.Layouts.{IsLaidOut};
-ghost use Rattle.tr_picture.specs.Rows.{row_inside};
 
 use crate::cells::push_cells;
 use crate::elements::{push_number, push_words};

@@ -1,4 +1,4 @@
-ghost use Rattle.std.specs.Prelude.{◌≡◌, ◌≤◌, ◌<◌, ◌+◌, ◌*◌, ◌++◌, ◌^◌, OnOk, Some, length, true};
+ghost use Rattle.std.specs.Prelude.{◌≡◌, ◌<◌, ◌+◌, ◌*◌, ◌++◌, ◌^◌, OnOk, Some, length, true};
 ghost use Rattle.tr_model.specs.Tables.{group_of, thread_of};
 ghost use Rattle.tr_picture.specs.Cells.{cell, cells, first_cell, group_cell, how_traced, letter, mark_cell, more_cell, report_cell, thread_cell, trace_cell, block};
 ghost use Rattle.tr_picture.specs.Elements.{printed};

@@ -1,4 +1,4 @@
-ghost use Rattle.std.specs.Prelude.{◌≡◌, ◌∷◌, ◌+◌, ◌++◌, [], OnOk, length, decimal, codes};
+ghost use Rattle.std.specs.Prelude.{◌≡◌, ◌∷◌, ◌+◌, ◌++◌, [], OnOk, decimal, codes};
 ghost use Rattle.tr_scenario.specs.Replies.{fate_text};
 ghost use Rattle.tr_picture.specs.declared.styles.Style.TheVariants.{Waiting};
 ghost use Rattle.tr_picture.specs.Elements.{printed, words};

@@ -1,4 +1,4 @@
-ghost use Rattle.std.specs.Prelude.{◌≡◌, ◌<◌, ◌+◌, ◌*◌, ◌++◌, ◌^◌, OnOk, length, map};
+ghost use Rattle.std.specs.Prelude.{◌≡◌, ◌<◌, ◌+◌, ◌++◌, ◌^◌, OnOk, map};
 ghost use Rattle.tr_picture.specs.Elements.{printed};
 ghost use Rattle.tr_picture.specs.Legends.{arrow_item, arrow_items, arrow_meanings, block_item, block_items, block_meanings, legend, word_item, word_items, word_meanings};
 

@@ -3,7 +3,7 @@ ghost use Rattle.tr_scenario.specs.Lines.{totals_line};
 ghost use Rattle.tr_status.specs.Texts.{texts};
 ghost use Rattle.tr_picture.specs.declared.styles.Style.TheVariants.{Dim, Ink, Refused};
 ghost use Rattle.tr_picture.specs.Draws.{ArePictures};
-ghost use Rattle.tr_picture.specs.Elements.{Open, escaped, printed, rect, token_pieces, words};
+ghost use Rattle.tr_picture.specs.Elements.{Open, escaped, printed, token_pieces, words};
 ghost use Rattle.tr_picture.specs.Layouts.{IsSmall};
 ghost use Rattle.tr_picture.specs.Pictures.{captions, description, foot, has_hidden, head, height, hidden_note, hidden_words, life_line, life_lines, limits, lost_note, picture_description, picture_of, picture_title, rows_end, sheet, summary, svg_attributes, width};
 

@@ -1,4 +1,4 @@
-ghost use Rattle.std.specs.Prelude.{◌≡◌, ◌≤◌, ◌<◌, ◌+◌, ◌*◌, ◌++◌, ◌^◌, OnOk, length, map};
+ghost use Rattle.std.specs.Prelude.{◌≡◌, ◌<◌, ◌+◌, ◌*◌, ◌++◌, ◌^◌, OnOk, length, map};
 ghost use Rattle.tr_workers.specs.Follows.{heard};
 ghost use Rattle.tr_picture.specs.Elements.{printed};
 ghost use Rattle.tr_picture.specs.Reports.{is_report, lane_report, number_of, report_in, taken_by, withdrawals, withdrawn};

@@ -1,4 +1,4 @@
-ghost use Rattle.std.specs.Prelude.{◌≡◌, ◌∷◌, ◌++◌, ◌≤◌, ◌<◌, ◌+◌, ◌*◌, ◌^◌, [], OnOk, codes, length};
+ghost use Rattle.std.specs.Prelude.{◌≡◌, ◌∷◌, ◌++◌, ◌≤◌, ◌<◌, ◌+◌, ◌*◌, [], OnOk, codes, length};
 ghost use Rattle.tr_status.specs.Texts.{texts};
 ghost use Rattle.tr_workers.specs.Follows.{heard};
 ghost use Rattle.tr_scenario.specs.RunTexts.{call_of};

@@ -1,4 +1,4 @@
-ghost use Rattle.std.specs.Prelude.{◌≡◌, ◌<◌, ◌-◌, ◌^◌, List, ℕ, length};
+ghost use Rattle.std.specs.Prelude.{◌<◌, ◌-◌, ◌^◌, List, ℕ, length};
 ghost use Rattle.tr_status.specs.Writing.{Puts, Writes, joined};
 
 /// What takes bytes, and may fail.

@@ -1,6 +1,6 @@
 ghost use Rattle.std.specs.Prelude.{◌≡◌, ◌&&◌, nat_le, if◌then◌else◌, Some, None};
 ghost use Rattle.tr_tracee.specs.Lives.{end_of_word, held};
-ghost use Rattle.tr_tracee.specs.Stops.{ends_part, entered_as, interrupted, listening, listening_life, may_enter, or_else, reported, restarted, restarted_life, set_options, traced_by, untraced, untraced_life, with_options, without_report, without_trace};
+ghost use Rattle.tr_tracee.specs.Stops.{ends_part, entered_as, interrupted, listening, listening_life, or_else, reported, restarted, restarted_life, set_options, traced_by, untraced, untraced_life, with_options, without_report, without_trace};
 
 use crate::life::{End, Life, Stop};
 use crate::thread::{Options, Report, Thread, Trace};

@@ -1,5 +1,5 @@
 ghost use Rattle.std.specs.Prelude.{◌≡◌};
-ghost use Rattle.tr_tracee.specs.Threads.{has_mark, is_leader, is_ready_to_take, is_traced, is_tracee_of, no_options, options_of, seized, tracer_of};
+ghost use Rattle.tr_tracee.specs.Threads.{has_mark, is_leader, is_ready_to_take, is_traced, is_tracee_of, options_of, seized, tracer_of};
 
 use crate::life::Life;
 use tr_sigset::SigSet;

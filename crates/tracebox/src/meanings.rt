@@ -1,4 +1,4 @@
-ghost use Rattle.std.specs.Prelude.{◌≡◌, ◌<◌, ◌-◌, ◌^◌, decimal};
+ghost use Rattle.std.specs.Prelude.{◌<◌, ◌-◌, ◌^◌, decimal};
 ghost use Rattle.tr_status.specs.Writing.{Writes};
 ghost use Rattle.tracebox.specs.Meanings.{line, meaning_line};
 

@@ -19,7 +19,7 @@ struct Counting {
 }
 
 impl Gate for Counting {
-    ghost use Rattle.std.specs.Prelude.{◌≡◌, ℕ, Bool, true};
+    ghost use Rattle.std.specs.Prelude.{◌≡◌, true};
 
     ghost may_say = { λ gate worker turn said. said ≡ true };
 

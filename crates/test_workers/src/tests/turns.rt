@@ -1,4 +1,4 @@
-ghost use Rattle.std.specs.Prelude.{◌≡◌, ◌<◌, ◌^◌, []};
+ghost use Rattle.std.specs.Prelude.{◌≡◌, ◌<◌, []};
 
 use super::{KILL, item, same};
 use std::alloc::Global;
@@ -36,8 +36,6 @@ struct EveryOther<'a> {
 }
 
 impl Gate for EveryOther<'_> {
-    ghost use Rattle.std.specs.Prelude.{ℕ, Bool};
-
     ghost may_say = { λ gate worker turn said. Unit {0} };
 
     fn may(&self, worker: usize, turn: u64) -> bool {

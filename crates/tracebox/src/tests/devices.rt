@@ -81,8 +81,6 @@ pub struct Feed<'a> {
 }
 
 impl Source for Feed<'_> {
-    ghost use Rattle.tr_scenario.specs.Sources.{Shown};
-
     ghost shown = { λ s. record {
       given = s.given.items;
       ended = s.ended;
