@@ -50,6 +50,21 @@ IsFixed T a (event.StarterWait which flags) c = Unit {0}
 IsFixed T a (event.CloneThread id) c = Unit {0}
 IsFixed T a e c = check T a e ≡ Ok (Due c)
 
+-- an event that is seldom made: what makes it isn't inlined
+abbrev pub IsRare : Event → Type 0
+IsRare (event.Kill g s) = ⊥
+IsRare (event.Sigqueue g s v) = ⊥
+IsRare (event.Mask id set) = ⊥
+IsRare (event.Pause id) = ⊥
+IsRare (event.Take id) = ⊥
+IsRare (event.TakeAny g) = ⊥
+IsRare (event.Halt id) = ⊥
+IsRare (event.Trap id) = ⊥
+IsRare (event.Interrupt id) = ⊥
+IsRare (event.Cont id s) = ⊥
+IsRare (event.Wait which) = ⊥
+IsRare _ = Unit {0}
+
 -- Fates
 
 -- how many of the fates are this one

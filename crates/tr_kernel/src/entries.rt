@@ -38,12 +38,6 @@ pub(crate) fn report_of(entry: &Option<Entry>) -> Option<u64>
     }
 }
 
-fn copied(reply: &Reply) -> Reply
-    ensures { result ≡ reply.now }
-{
-    *reply
-}
-
 /// Makes room for an entry, the signals that it accepts and its note, by which at most this many deaths of groups begin.
 /// Mostly there is room, and nothing is called.
 #[inline(always)]
@@ -129,5 +123,5 @@ pub(crate) fn write_entry(
     notes.note(fact, step, &reply);
     let entry = Entry::new(actor, *event, choice);
     journal.push(&entry, &reply);
-    Ok(copied(&reply))
+    Ok(reply)
 }

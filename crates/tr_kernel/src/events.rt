@@ -2,7 +2,7 @@ ghost use Rattle.std.specs.Prelude.{◌≡◌, IfOk, OnErr};
 ghost use Rattle.tr_model.specs.Compare.{Permits};
 ghost use Rattle.tr_model.specs.Preferred.{check};
 ghost use Rattle.tr_steps.specs.UnderWay.{IsStepOf};
-ghost use Rattle.tr_kernel.specs.Private.{IsFixed};
+ghost use Rattle.tr_kernel.specs.Private.{IsFixed, IsRare};
 
 use std::alloc::{AllocError, Global};
 use tr_model::{Checked, Choice, Event, Refusal, Reply};
@@ -61,6 +61,9 @@ pub(crate) fn check(table: &Table, actor: u32, event: &Event) -> Result<Checked,
 }
 
 /// Makes an event that is due, with any choice that the model admits. Where memory is refused nothing has changed.
+///
+/// What makes a frequent event is inlined. The reply of a rare one comes through memory, and is taken out of it here, so that
+/// the others' needs none.
 #[inline(always)]
 pub(crate) fn change(
     step: &mut Step,
@@ -78,10 +81,8 @@ pub(crate) fn change(
 {
     match event {
         Event::Kill { tgid, sig } => kill(step, actor, *tgid, *sig),
-        Event::Tgkill { tgid, tid, sig } => tgkill(step, actor, *tgid, *tid, *sig),
         Event::Sigqueue { tgid, sig, value } => sigqueue(step, actor, *tgid, *sig, *value),
         Event::Mask { tid, set } => mask(step, actor, *tid, *set),
-        Event::SetAction { tid, sig, how } => set_action(step, actor, *tid, *sig, *how),
         Event::Pause { tid } => pause(step, actor, *tid),
         Event::Take { tid } => take(step, actor, *tid, choice.instance().unwrap()),
         Event::TakeAny { tgid } => take_any(
@@ -93,6 +94,36 @@ pub(crate) fn change(
         ),
         Event::Halt { tid } => halt(step, actor, *tid),
         Event::Trap { tid } => trap(step, actor, *tid),
+        Event::Interrupt { tid } => interrupt(step, actor, *tid),
+        Event::Cont { tid, sig } => cont(step, actor, *tid, *sig),
+        Event::Wait { which } => wait(step, actor, *which, choice.report().unwrap()),
+        _ => {
+            let reply = change_rarely(step, alloc, actor, event, choice)?;
+            Ok(reply)
+        }
+    }
+}
+
+/// Makes a rare event that is due, as `change`.
+#[inline(never)]
+fn change_rarely(
+    step: &mut Step,
+    alloc: Global,
+    actor: u32,
+    event: &Event,
+    choice: Choice,
+) -> Result<Reply, AllocError>
+    requires due { Permits step.old.work.table actor event.now choice }
+    requires fixed { IsFixed step.old.work.table actor event.now choice }
+    requires rare { IsRare event.now }
+    ensures did { IfOk result
+        (IsStepOf step.old.work.table
+        (record { actor = actor; event = event.now; choice = choice }) step.new) }
+    ensures err { OnErr result (step.new.work.table ≡ step.old.work.table) }
+{
+    match event {
+        Event::Tgkill { tgid, tid, sig } => tgkill(step, actor, *tgid, *tid, *sig),
+        Event::SetAction { tid, sig, how } => set_action(step, actor, *tid, *sig, *how),
         Event::Die { tid } => die(step, actor, *tid),
         Event::CloneThread { tid } => clone_thread(step, actor, *tid, choice.new_id().unwrap()),
         Event::Exec { tid } => exec(step, actor, *tid),
@@ -101,13 +132,10 @@ pub(crate) fn change(
         Event::ExitGroup { tid, code } => exit_group(step, actor, *tid, *code),
         Event::Attach { tid } => attach(step, actor, *tid),
         Event::Seize { tid, options } => seize(step, actor, *tid, *options),
-        Event::Interrupt { tid } => interrupt(step, actor, *tid),
-        Event::Cont { tid, sig } => cont(step, actor, *tid, *sig),
         Event::Listen { tid } => listen(step, actor, *tid),
         Event::Detach { tid, sig } => detach(step, actor, *tid, *sig),
         Event::SetOptions { tid, options } => set_options(step, actor, *tid, *options),
         Event::TracerExit => tracer_exit(step, alloc, actor),
-        Event::Wait { which } => wait(step, actor, *which, choice.report().unwrap()),
         Event::StarterWait { which, flags } => starter_wait(
             step,
             actor,
@@ -115,6 +143,6 @@ pub(crate) fn change(
             *flags,
             choice.report().unwrap(),
         ),
-        Event::EventMessage { .. } | Event::SignalInfo { .. } => unreachable!(),
+        _ => unreachable!(),
     }
 }
