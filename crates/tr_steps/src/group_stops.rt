@@ -4,8 +4,10 @@ ghost use Rattle.std.specs.Prelude.{◌≡◌, ◌≤◌, not, ◌&&◌, length}
 ghost use Rattle.tr_wait.specs.declared.status.Status.TheVariants as status;
 ghost use Rattle.tr_group.specs.GroupStops.{is_complete, is_stopping};
 ghost use Rattle.tr_model.specs.GroupStops.{complete_group_stop, complete_group_stops, complete_stop, continue_all, ended_stop, initiate, note_stop};
-ghost use Rattle.tr_model.specs.Moves.{note, only_group, regroup, when};
+ghost use Rattle.tr_model.specs.Moves.{alter, note, only_group, regroup, when};
 ghost use Rattle.tr_model.specs.Tables.{group_of, has_stop_mark, has_traced, stop_in_effect, stop_of};
+ghost use Rattle.tr_tracee.specs.Marks.{cont_noted};
+ghost use Rattle.tr_tracee.specs.Threads.{at_group};
 ghost use Rattle.tr_steps.specs.UnderWay.{Moves};
 
 use crate::steps::Step;
@@ -59,11 +61,11 @@ impl Step {
         }
     }
 
-    /// A SIGCONT continues the group.
-    #[tactic(auto, using(crate::proofs::Continues::ended_once))]
+    /// A SIGCONT continues the group, and each signal-delivery-stop of the group notes that it came.
     pub fn continue_all(&mut self, tgid: u32)
         requires { 1 ≤ self.old.room }
-        ensures { Moves (continue_all tgid) 1 self.old self.new }
+        ensures { Moves (λ w. continue_all tgid
+            (alter (at_group tgid cont_noted) w)) 1 self.old self.new }
     {
         let ends = self.stop_now(tgid).is_some();
         let tells = self.tells_starter(tgid);

@@ -10,7 +10,7 @@ ghost use Rattle.tr_model.specs.Takes.{deliver};
 ghost use Rattle.tr_tracee.specs.declared.life.Stop.TheVariants as stop;
 ghost use Rattle.tr_tracee.specs.Ends.{begun_to_leave, begun_to_leave_by_exec};
 ghost use Rattle.tr_tracee.specs.Lives.{held};
-ghost use Rattle.tr_tracee.specs.Marks.{cont_noted, marked};
+ghost use Rattle.tr_tracee.specs.Marks.{marked};
 ghost use Rattle.tr_tracee.specs.Threads.{at_group, at_thread};
 ghost use Rattle.tr_table.specs.Changes.{continued_by, flushes, group_changed_by, keeps_held, thread_changed_by};
 ghost use Rattle.tr_table.specs.Held.{bool_to_nat};
@@ -33,14 +33,8 @@ impl Step {
         self.table.change_members(tgid, &ThreadChange::Mark);
     }
 
-    /// Each signal-delivery-stop of a group notes that a SIGCONT came.
-    pub fn note_cont(&mut self, tgid: u32)
-        ensures { Moves (alter (at_group tgid cont_noted)) 0 self.old self.new }
-    {
-        self.table.change_members(tgid, &ThreadChange::NoteCont);
-    }
-
-    /// A SIGCONT comes to the threads of a group; `in_effect` says whether a group-stop is in effect.
+    /// A SIGCONT comes to the threads of a group, whose signal-delivery-stops note it; `in_effect` says whether a group-stop
+    /// is in effect.
     pub fn continue_threads(&mut self, tgid: u32, in_effect: bool)
         ensures { Moves (alter (at_group tgid (continued_by in_effect))) 0 self.old self.new }
     {

@@ -61,7 +61,6 @@ impl Step {
         ensures { Moves (continue_by_signal tgid) 1 self.old self.new }
     {
         self.flush(tgid, &Flush::Stops);
-        self.note_cont(tgid);
         self.continue_all(tgid);
     }
 

@@ -1,3 +1,4 @@
+pub mod Alike
 pub mod Ascending
 pub mod GoodStarts
 pub mod GroupLists

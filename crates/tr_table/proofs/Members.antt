@@ -1,6 +1,7 @@
 -- What a change of the list of all threads makes of the list of a group's threads.
-use Rattle.std.proofs.Common.{◌≡◌, ◌==◌, ◌+◌, ◌<◌, ◌≤◌, ◌∙◌, ℕ, zero, suc, List, [], ◌∷◌, ◌++◌, Bool, true, false, not, cond, if◌then◌else◌, filter, length, set, get_or, remove, arith, refl, ap, sym}
-use Rattle.std.proofs.lemmas.Bool.{eq-eqb}
+use Rattle.std.proofs.Common.{◌≡◌, ◌==◌, ◌+◌, ◌<◌, ◌≤◌, ◌∙◌, ℕ, zero, suc, List, [], ◌∷◌, ◌++◌, Bool, true, false, Some, None, not, cond, if◌then◌else◌, filter, length, nat_lt, set, get_or, remove, arith, refl, ap, sym}
+use Rattle.std.specs.List.{position}
+use Rattle.std.proofs.lemmas.Bool.{eq-eqb, lt-ltb}
 use Rattle.tr_tracee.specs.declared.thread.Thread.{Thread}
 use Rattle.tr_tracee.specs.Threads.{in_group}
 use Rattle.tr_model.specs.Journals.{occurs}
@@ -21,6 +22,9 @@ place_at n (suc r) d (x ∷ xs) h e once = go (x == n) once (listed n r d xs (om
     go : (b : Bool) → (if b then 1 else 0) + occurs n xs ≤ 1 → 1 ≤ occurs n xs → (occurs n xs ≤ 1 → place_in n xs ≡ r) → cond (not b) (1 + place_in n xs) 0 ≡ suc r
     go true o m q = absurd (omega (arith, o, m))
     go false o m q = omega (arith, q (omega (arith, o)))
+
+pub position_at : (n r d : ℕ) (ns : List ℕ) → r < length ns → get_or ns r d ≡ n → occurs n ns ≤ 1 → position (λ m. m == n) ns ≡ Some r
+position_at n r d ns h e once = ap (λ (k : ℕ). cond (nat_lt k (length ns)) (Some k) None) (place_at n r d ns h e once) ∙ ap (λ (b : Bool). cond b (Some r) None) (lt-ltb r (length ns) h)
 
 -- where among its group's threads the one at a place of the list stands
 

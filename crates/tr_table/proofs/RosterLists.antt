@@ -1,5 +1,5 @@
 -- The roster that a list of ids and a list of rosters beside it have for a group.
-use Rattle.std.proofs.Common.{◌≡◌, ◌==◌, ◌+◌, ◌-◌, ◌<◌, ◌≤◌, ◌∙◌, ◌⊎◌, inl, inr, ℕ, zero, suc, List, [], ◌∷◌, ◌++◌, Bool, true, false, Option, Some, None, cond, if◌then◌else◌, get_or, length, nat_eq, position, remove, set, arith, ap, refl, subst, sym}
+use Rattle.std.proofs.Common.{◌≡◌, ◌==◌, ◌+◌, ◌-◌, ◌<◌, ◌≤◌, ◌∙◌, ◌⊎◌, inl, inr, ℕ, zero, suc, List, [], ◌∷◌, ◌++◌, Bool, true, false, Option, Some, None, cond, if◌then◌else◌, get_or, is_some, length, nat_eq, position, remove, set, arith, ap, refl, subst, sym}
 use Rattle.std.specs.Prelude.{unwrap_or}
 use Rattle.std.specs.List.{list_any, zip}
 use Rattle.std.specs.Map.{lookup}
@@ -9,10 +9,12 @@ use Rattle.tr_model.specs.Journals.{occurs}
 use Rattle.tr_tracee.specs.declared.thread.Thread.{Thread}
 use Rattle.tr_tracee.specs.Lives.{is_dead, is_live}
 use Rattle.tr_tracee.specs.Threads.{is_traced}
+use Rattle.tr_table.specs.Alike.{StandAlike}
 use Rattle.tr_table.specs.Held.{bool_to_nat}
-use Rattle.tr_table.specs.Rosters.{CountAlike, HasRow, HaveSameWords, RosterView, no_one, place_in, rewritten, roster_in, unless_empty, with_counts, with_words}
+use Rattle.tr_table.specs.Rosters.{CountAlike, HasRow, HaveSameWords, RosterView, no_one, place_in, rewritten, roster_in, unless_empty, with_counts, with_marks, with_words}
 use Rattle.tr_table.specs.Rows.{blocked_word, runnable_word}
 use Rattle.tr_table.specs.Pages.{counted_from_one}
+use Rattle.tr_table.proofs.Alike.{blocks_alike}
 use Rattle.tr_table.proofs.Numbered.{absent, bump, number, number_is}
 
 -- that of the first group with the id
@@ -210,6 +212,25 @@ counts_stay t u a r = λ i. record {
   traced = sym (same_count r.traced (is_traced t) (is_traced u) a.traced) i;
   marked = sym (same_count r.marked t.stop_mark u.stop_mark a.marked) i;
 }
+
+-- one that stands as before is written by its marks alone
+pub marks_written : (t u : Thread) → StandAlike t u → u.id ≡ t.id → (r : RosterView) → HasRow t r → with_marks t.stop_mark u r ≡ rewritten t u r
+marks_written t u a e r row = λ i. record {
+  ids = r.ids;
+  blocked = same_place r.blocked (place_in t.id r.ids) (blocked_word t) (blocked_word u) row.blocked (blocks_alike t u a) i;
+  runnable = set r.runnable (place_in (e i) r.ids) (runnable_word u);
+  live = same_count r.live (is_live t.life) (is_live u.life) a.live i;
+  dead = same_count r.dead (is_dead t.life) (is_dead u.life) a.dead i;
+  traced = same_count r.traced (is_traced t) (is_traced u) (ap is_some a.trace) i;
+  marked = r.marked + bool_to_nat u.stop_mark - bool_to_nat t.stop_mark;
+}
+
+pub marks_in : (t u : Thread) → StandAlike t u → u.id ≡ t.id → (g h : ℕ) (rs : List (ℕ × RosterView)) → HasRow t (roster_in rs g) → (if g == h then with_marks t.stop_mark u (roster_in rs h) else roster_in rs h) ≡ (if g == h then rewritten t u (roster_in rs h) else roster_in rs h)
+marks_in t u a e g h rs row = go (g == h) refl
+  where
+    go : (b : Bool) → (g == h) ≡ b → (if b then with_marks t.stop_mark u (roster_in rs h) else roster_in rs h) ≡ (if b then rewritten t u (roster_in rs h) else roster_in rs h)
+    go true k = marks_written t u a e (roster_in rs h) (subst (λ (n : ℕ). HasRow t (roster_in rs n)) (eqb-true g h k) row)
+    go false k = refl
 
 pub unwritten : (t u : Thread) → HaveSameWords t u → CountAlike t u → (g h : ℕ) (rs : List (ℕ × RosterView)) → HasRow t (roster_in rs g) → roster_in rs h ≡ (if g == h then rewritten t u (roster_in rs h) else roster_in rs h)
 unwritten t u words counts g h rs row = go (g == h) refl

@@ -1,5 +1,5 @@
 -- What is kept for waits, as one: a thread of the list, what it becomes, and one that goes or comes.
-use Rattle.std.proofs.Common.{◌≡◌, ◌+◌, ◌<◌, ◌≤◌, ◌++◌, ◌∷◌, [], ◌∙◌, ℕ, List, false, Option, None, filter, if◌then◌else◌, is_some, length, length-append, set, get_or, remove, take, arith, ap, refl, subst, sym}
+use Rattle.std.proofs.Common.{◌≡◌, ◌+◌, ◌<◌, ◌≤◌, ◌++◌, ◌∷◌, [], ◌∙◌, ℕ, List, Bool, true, false, Option, None, filter, if◌then◌else◌, is_some, length, length-append, set, get_or, remove, take, arith, ap, refl, subst, sym}
 use Rattle.std.specs.List.Sorted.{IsPartitionedBy}
 use Rattle.std.proofs.lemmas.List.{length-set}
 use Rattle.std.proofs.lemmas.List.Edits.{length-remove}
@@ -23,6 +23,12 @@ pub record Recounts (v w : MultisetView) (before after : Option ℕ) : Type 0 wh
 pub record MayRecount (v : MultisetView) (before after : Option ℕ) : Type 0 where
   pub counted : (m : ℕ) → bool_to_nat (is_number m before) ≤ occurs m v.numbers
   pub room : length v.numbers + bool_to_nat (is_some after) ≤ v.places + bool_to_nat (is_some before)
+
+relisted_alike : (was is : Bool) → was ≡ is → (k id : ℕ) (ns : List ℕ) → ns ≡ relisted was is k id ns
+relisted_alike true true e k id ns = refl
+relisted_alike false false e k id ns = refl
+relisted_alike true false e k id ns = cc
+relisted_alike false true e k id ns = cc
 
 module _ (ts : List Thread) (ids : List ℕ) (v : TracingView) (h : IsTracing ts v) (room : HasPlaces (length ts) v) (e : ids ≡ ids_of ts) (once : (n : ℕ) → occurs n ids ≤ 1) (i : ℕ) (x : Thread) (l : i < length ts) (at : x ≡ get_or ts i x) where
   distinct : (n : ℕ) → occurs n (ids_of ts) ≤ 1
@@ -86,11 +92,17 @@ module _ (ts : List Thread) (ids : List ℕ) (v : TracingView) (h : IsTracing ts
         untraced_deaths = omega (arith, n, h.untraced_deaths, counted_written is_untraced_death ts i x y l, ap (λ (t : Thread). bool_to_nat (is_untraced_death t)) at);
       }
 
-  -- and one of which nothing is kept, before and after, leaves it as it is
+  -- one with the tracer and the waiter of before, and whose death is to be told as before, leaves it as it is
+  pub traced_alike : (y : Thread) → y.id ≡ (get_or ts i x).id → tracer x ≡ tracer y → waiter x ≡ waiter y → is_untraced_death x ≡ is_untraced_death y → IsTracing (set ts i y) v
+  traced_alike y same a b d =
+      let k : ℕ = length (filter (is_before ids i) v.reporting) in
+      let p : Recounts v.tracers v.tracers (tracer x) (tracer y) = record { counted = λ m. ap (λ (o : Option ℕ). occurs m v.tracers.numbers + bool_to_nat (is_number m o)) a; sized = ap (λ (o : Option ℕ). length v.tracers.numbers + bool_to_nat (is_some o)) a } in
+      let q : Recounts v.waiters v.waiters (waiter x) (waiter y) = record { counted = λ m. ap (λ (o : Option ℕ). occurs m v.waiters.numbers + bool_to_nat (is_number m o)) b; sized = ap (λ (o : Option ℕ). length v.waiters.numbers + bool_to_nat (is_some o)) b } in
+      traced_written y v (waiter x) (waiter y) same refl refl p q (relisted_alike (is_some (waiter x)) (is_some (waiter y)) (ap is_some b) k y.id v.reporting) (ap (λ (c : Bool). v.untraced_deaths + bool_to_nat c) d)
+
+  -- and one of which nothing is kept, before and after
   pub traced_still : (y : Thread) → y.id ≡ (get_or ts i x).id → IsUnkept x → IsUnkept y → IsTracing (set ts i y) v
-  traced_still y same before after =
-      let p : Recounts v.tracers v.tracers (tracer x) (tracer y) = rw (before.tracer, after.tracer) (record { counted = λ m. refl; sized = refl }) in
-      traced_written y v None None same (sym before.waiter) (sym after.waiter) p (record { counted = λ m. refl; sized = refl }) refl (omega (arith, ap bool_to_nat before.untraced_death, ap bool_to_nat after.untraced_death))
+  traced_still y same before after = traced_alike y same (before.tracer ∙ sym after.tracer) (before.waiter ∙ sym after.waiter) (before.untraced_death ∙ sym after.untraced_death)
 
   pub traced_gone : (id : ℕ) (w : TracingView) (was : Option ℕ) → was ≡ waiter x → Recounts v.tracers w.tracers (tracer x) None → Recounts v.waiters w.waiters was None
       → w.reporting ≡ relisted (is_some was) false (length (filter (is_before ids i) v.reporting)) id v.reporting → w.untraced_deaths + bool_to_nat (is_untraced_death x) ≡ v.untraced_deaths → IsTracing (remove ts i) w

@@ -26,9 +26,10 @@ use Rattle.tr_table.specs.declared.groups.GroupChange.TheVariants as group
 use Rattle.tr_table.specs.declared.thread_changes.ThreadChange.{ThreadChange}
 use Rattle.tr_table.specs.declared.thread_changes.ThreadChange.TheVariants as thread
 
--- SIGCONT: the note mark, and where a group-stop is in effect the end of the thread's part in it
+-- SIGCONT: its signal-delivery-stop notes it, then comes the note mark, and where a group-stop is in effect the end of the
+-- thread's part in it
 abbrev pub continued_by : Bool → Thread → Thread
-continued_by in_effect t = if in_effect then continued (noted t) else noted t
+continued_by in_effect t = if in_effect then continued (noted (cont_noted t)) else noted (cont_noted t)
 
 -- what the change makes of one thread's record
 abbrev pub thread_changed_by : ThreadChange → Thread → Thread
@@ -39,7 +40,6 @@ thread_changed_by thread.Join t = joining t
 thread_changed_by thread.Halt t = stopped (joining t)
 thread_changed_by thread.Unmark t = unmarked t
 thread_changed_by (thread.Continue in_effect) t = continued_by in_effect t
-thread_changed_by thread.NoteCont t = cont_noted t
 thread_changed_by (thread.Enter s n) t = entered_as n s t
 thread_changed_by (thread.Report n s) t = reported n s t
 thread_changed_by thread.WithdrawReport t = without_report t

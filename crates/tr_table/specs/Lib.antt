@@ -12,6 +12,7 @@ pub mod Settled
 pub mod Pages
 pub mod Held
 pub mod Rosters
+pub mod Alike
 pub mod Tracing
 pub mod Waits
 pub mod Private

@@ -1,6 +1,6 @@
 -- What is kept of each group's threads beside the list of all: their ids, two words of each, and how many of them are in a
 -- standing.
-use Rattle.std.specs.Prelude.{◌≡◌, ℕ, ◌+◌, ◌-◌, ◌≤◌, ◌==◌, List, [], ◌∷◌, ◌++◌, filter, get_or, length, map, nat_eq, remove, set, if◌then◌else◌, unwrap_or}
+use Rattle.std.specs.Prelude.{◌≡◌, ℕ, Bool, ◌+◌, ◌-◌, ◌≤◌, ◌==◌, List, [], ◌∷◌, ◌++◌, filter, get_or, length, map, nat_eq, remove, set, if◌then◌else◌, unwrap_or}
 use Rattle.std.specs.List.{position_or_len}
 use Rattle.std.specs.Map.{lookup}
 use Rattle.tr_tracee.specs.declared.thread.Thread.{Thread}
@@ -92,6 +92,18 @@ with_counts t u r = record {
 -- the record of a thread becomes another
 abbrev pub rewritten : Thread → Thread → RosterView → RosterView
 rewritten t u r = with_counts t u (with_words t.id u r)
+
+-- a thread that has become this record, and had a stop mark or not, may take or not, and counts with its stop mark
+abbrev pub with_marks : Bool → Thread → RosterView → RosterView
+with_marks had u r = record {
+  ids = r.ids;
+  blocked = r.blocked;
+  runnable = set r.runnable (place_in u.id r.ids) (runnable_word u);
+  live = r.live;
+  dead = r.dead;
+  traced = r.traced;
+  marked = r.marked + bool_to_nat u.stop_mark - bool_to_nat had;
+}
 
 -- no count is above 64
 pub record IsSmall (r : RosterView) : Type 0 where

@@ -64,6 +64,18 @@ impl Index {
         self.pages.number(id).checked_sub(1)
     }
 
+    /// The same, looked for first at a likely place.
+    #[inline(always)]
+    pub(crate) fn place_near(&self, likely: usize, id: u32) -> Option<usize>
+        ensures at { result ≡ position (λ n. n == id) self.now }
+        ensures once { (n : ℕ) → occurs n self.now ≤ 1 }
+    {
+        if likely < self.ids.len() && self.ids[likely] == id {
+            return Some(likely);
+        }
+        self.place(id)
+    }
+
     /// A new id comes last. Where memory is refused nothing has changed.
     pub(crate) fn push(&mut self, id: u32) -> Result<(), AllocError>
         requires { list_any (λ n. n == id) self.old ≡ false }

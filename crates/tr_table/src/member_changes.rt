@@ -28,8 +28,9 @@ impl Threads {
         ensures { self.new ≡ map (at_group tgid (thread_changed_by change.now)) self.old }
     {
         let ids = self.member_ids(tgid);
+        let mut likely = 0;
         for member in ids.as_slice() {
-            self.change(*member, change);
+            likely = self.change_near(likely, *member, change);
         }
     }
 

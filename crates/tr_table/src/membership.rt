@@ -1,7 +1,7 @@
 ghost use Rattle.std.specs.Prelude.{◌≡◌, ℕ, ◌≤◌, ◌==◌, ◌&&◌, ◌||◌, [], MatchOption, false, filter, length, true};
 ghost use Rattle.std.specs.Option.{option_map_or};
 ghost use Rattle.std.specs.List.{list_all, list_any};
-ghost use Rattle.tr_sigset.specs.Sets.{has};
+ghost use Rattle.tr_sigset.specs.Sets.{has, in_word};
 ghost use Rattle.tr_tracee.specs.Lives.{is_dead, is_live};
 ghost use Rattle.tr_tracee.specs.Threads.{in_group, is_traced};
 ghost use Rattle.tr_model.specs.Journals.{occurs};
@@ -11,7 +11,7 @@ ghost use Rattle.tr_table.specs.Rosters.{roster_of};
 use crate::roster_list::Roster;
 use crate::threads::Threads;
 use arrayvec::ArrayVec;
-use tr_sigset::Signal;
+use tr_sigset::{SigSet, Signal};
 
 // What is asked of the threads of one group.
 
@@ -85,12 +85,16 @@ impl Threads {
         all_are_or_are_dead(self, self.ids_in(tgid), id)
     }
 
+    /// Whether a live thread of the group blocks the signal.
     pub(crate) fn some_blocks(&self, tgid: u32, signal: Signal) -> bool
         ensures { result
             ≡ list_any (λ t. is_live t.life && has t.mask signal)
             (filter (in_group tgid) self.now) }
     {
-        some_block(self, self.ids_in(tgid), signal)
+        match self.roster(tgid) {
+            Some(roster) => some_holds(roster.blocked(), signal),
+            None => false,
+        }
     }
 }
 
@@ -105,15 +109,13 @@ fn is_or_is_dead(threads: &Threads, n: u32, id: u32) -> bool
     }
 }
 
-/// Whether the thread of an id is live and blocks the signal.
-fn blocks(threads: &Threads, n: u32, signal: Signal) -> bool
-    ensures { result
-        ≡ option_map_or (λ t. is_live t.life && has t.mask signal) (thread_in threads.now n) false }
+/// Whether one of these words holds the signal.
+fn some_holds(words: &[u64], signal: Signal) -> bool
+    ensures { result ≡ list_any (λ word. in_word word signal) words.now }
 {
-    match threads.find(n) {
-        Some(thread) => thread.life.is_live() && thread.mask.has(signal),
-        None => false,
-    }
+    words
+        .iter()
+        .any(|word| SigSet::from_bits(*word).has(signal))
 }
 
 fn all_are_or_are_dead(threads: &Threads, ids: &[u32], id: u32) -> bool
@@ -123,13 +125,4 @@ fn all_are_or_are_dead(threads: &Threads, ids: &[u32], id: u32) -> bool
         (thread_in threads.now n) true) ids.now }
 {
     ids.iter().all(|n| is_or_is_dead(threads, *n, id))
-}
-
-fn some_block(threads: &Threads, ids: &[u32], signal: Signal) -> bool
-    ensures { result
-        ≡ list_any
-        (λ n. option_map_or (λ t. is_live t.life && has t.mask signal)
-        (thread_in threads.now n) false) ids.now }
-{
-    ids.iter().any(|n| blocks(threads, *n, signal))
 }

@@ -1,6 +1,7 @@
 ghost use Rattle.std.specs.Prelude.{◌≡◌, ℕ, ◌<◌, ◌≤◌, ◌==◌, [], filter, MatchOption, OnErr, OnOk, if◌then◌else◌, length, not, true, vec_capacity, vec_len};
 ghost use Rattle.tr_model.specs.Journals.{occurs};
-ghost use Rattle.tr_table.specs.Rosters.{CountAlike, Counts, HasRow, HaveSameWords, IsSmall, no_one, place_in, rewritten, roster_in, roster_of, unless_empty, with_counts, with_last, with_words, without};
+ghost use Rattle.tr_table.specs.Rosters.{CountAlike, Counts, HasRow, HaveSameWords, IsSmall, no_one, place_in, rewritten, roster_in, roster_of, unless_empty, with_counts, with_last, with_marks, with_words, without};
+ghost use Rattle.tr_table.specs.Held.{bool_to_nat};
 ghost use Rattle.tr_table.specs.Rows.{AreWords};
 ghost use Rattle.tr_tracee.specs.Lives.{is_live};
 ghost use Rattle.tr_tracee.specs.Threads.{in_group};
@@ -30,6 +31,7 @@ pub(crate) struct Roster {
 impl Model for Roster {
     ghost use Rattle.std.specs.Prelude.{◌≡◌, length};
     ghost use Rattle.tr_table.specs.Rosters.{RosterView};
+    ghost use Rattle.tr_table.specs.Held.{bool_to_nat};
     ghost use Rattle.tr_table.specs.Rows.{AreWords};
 
     ghost Value = { RosterView };
@@ -210,6 +212,22 @@ impl Roster {
             self.recount(before, after);
         }
     }
+
+    /// Takes the thread at a place of the table as what it has become, where it stands as before, and had a stop mark or
+    /// not.
+    #[inline(always)]
+    fn rewrite_marks(&mut self, had_mark: bool, after: &Thread, at: usize)
+        requires once { occurs after.now.id self.old.ids ≤ 1 }
+        requires few { self.old.marked ≤ 64 }
+        requires counted { bool_to_nat had_mark ≤ self.old.marked }
+        ensures { self.new ≡ with_marks had_mark after.now self.old }
+    {
+        let place = self.place(after.id, at);
+        if place < self.ids.len() {
+            self.runnable[place] = runnable_word(after);
+        }
+        self.marked = recounted(self.marked, had_mark, after.stop_mark);
+    }
 }
 
 /// Whether two records of a thread count as the same, where both are live or neither is.
@@ -249,6 +267,8 @@ fn make_place(list: &mut Vec<Roster>) -> Result<(), AllocError>
 pub(crate) struct Rosters {
     index: Index,
     list: Vec<Roster>,
+    /// Where the roster stands that was looked for last: often it is the next one too.
+    recent: usize,
 }
 
 impl Model for Rosters {
@@ -270,6 +290,7 @@ impl Rosters {
         Rosters {
             index: Index::new(alloc),
             list: Vec::new(alloc),
+            recent: 0,
         }
     }
 
@@ -393,6 +414,25 @@ impl Rosters {
             self.index.remove(place);
             let _empty = self.list.remove(place);
         }
+    }
+
+    /// The record of a thread has become this one, which stands as before, and had a stop mark or not.
+    #[inline(always)]
+    pub(crate) fn rewrite_marks(&mut self, had_mark: bool, after: &Thread, at: usize)
+        requires there { 0 < length (roster_in self.old after.now.group).ids }
+        requires once { occurs after.now.id (roster_in self.old after.now.group).ids ≤ 1 }
+        requires few { (roster_in self.old after.now.group).marked ≤ 64 }
+        requires counted { bool_to_nat had_mark ≤ (roster_in self.old after.now.group).marked }
+        ensures { (g : ℕ)
+            → roster_in self.new g
+            ≡ (if after.now.group == g then with_marks had_mark after.now
+            (roster_in self.old g) else roster_in self.old g) }
+    {
+        let Some(place) = self.index.place_near(self.recent, after.group) else {
+            return;
+        };
+        self.recent = place;
+        self.list[place].rewrite_marks(had_mark, after, at);
     }
 
     /// A group that has threads has this roster from now on.

@@ -1,5 +1,7 @@
-ghost use Rattle.std.specs.Prelude.{◌≡◌, false};
+ghost use Rattle.std.specs.Prelude.{◌≡◌, false, true};
+ghost use Rattle.tr_tracee.specs.declared.thread.Thread.{Thread};
 ghost use Rattle.tr_table.specs.Changes.{thread_changed_by};
+ghost use Rattle.tr_table.specs.Alike.{StandAlike};
 
 use tr_sigset::SigSet;
 use tr_tracee::{End, Options, Stop, Thread, Trace};
@@ -20,10 +22,8 @@ pub enum ThreadChange {
     Halt,
     /// It loses its marks and ends its pause.
     Unmark,
-    /// A SIGCONT came to it; the value says whether a group-stop is in effect.
+    /// A SIGCONT came to it, which its signal-delivery-stop notes; the value says whether a group-stop is in effect.
     Continue(bool),
-    /// Its signal-delivery-stop notes that a SIGCONT came.
-    NoteCont,
     /// It enters a ptrace-stop, with the report of this number.
     Enter(Stop, u64),
     /// It has the report of this number.
@@ -67,15 +67,31 @@ impl ThreadChange {
             ThreadChange::Pausing(pausing) => thread.pausing != *pausing,
             ThreadChange::Mark => !thread.stop_mark && !thread.joined && thread.life.is_live(),
             ThreadChange::Continue(in_effect) => {
-                *in_effect || !thread.note_mark && thread.is_seized()
+                *in_effect || thread.life.is_in_stop() || !thread.note_mark && thread.is_seized()
             }
-            ThreadChange::NoteCont => thread.life.is_in_stop(),
             ThreadChange::BeginToLeave(..) => !thread.life.is_dead(),
             _ => true,
         }
     }
 
+    /// Whether every thread stands after it as before: of all that is kept beside a thread it turns no more than its stop
+    /// mark and whether it may take.
+    #[tactic(auto, using(crate::proofs::Alike::mark_stands, crate::proofs::Alike::halt_stands, crate::proofs::Alike::continue_stands, crate::proofs::Alike::interrupt_stands))]
+    #[inline(always)]
+    pub(crate) fn turns_marks_alone(&self) -> bool
+        ensures { result ≡ true → (t : Thread) → StandAlike t (thread_changed_by self.now t) }
+    {
+        matches!(
+            self,
+            ThreadChange::Mark
+                | ThreadChange::Halt
+                | ThreadChange::Continue(_)
+                | ThreadChange::Interrupt
+        )
+    }
+
     /// Makes it of a thread.
+    #[inline(always)]
     pub(crate) fn make(&self, thread: &mut Thread)
         ensures { thread.new ≡ thread_changed_by self.now thread.old }
     {
@@ -90,12 +106,14 @@ impl ThreadChange {
             }
             ThreadChange::Unmark => thread.unmark(),
             ThreadChange::Continue(in_effect) => {
+                if thread.life.is_in_stop() {
+                    thread.note_cont();
+                }
                 thread.note();
                 if *in_effect {
                     thread.continue_one();
                 }
             }
-            ThreadChange::NoteCont => thread.note_cont(),
             ThreadChange::Enter(stop, number) => thread.enter(stop, *number),
             ThreadChange::Report(number, status) => thread.set_report(*number, status),
             ThreadChange::WithdrawReport => thread.withdraw_report(),

@@ -7,6 +7,7 @@ ghost use Rattle.tr_model.specs.Tables.{ids_of, owner_in, thread_in};
 ghost use Rattle.tr_table.specs.Changes.{thread_changed_by};
 ghost use Rattle.tr_table.specs.Private.{IsPlace, IsThreads};
 ghost use Rattle.tr_table.specs.Tracing.{HasPlaces, IsTracing};
+ghost use Rattle.tr_table.specs.Alike.{StandAlike};
 ghost use Rattle.tr_table.specs.Rosters.{roster_in, roster_of};
 
 use crate::index::Index;
@@ -141,6 +142,14 @@ impl Threads {
         self.index.place(id)
     }
 
+    /// The same, looked for first at a likely place.
+    #[inline(always)]
+    fn place_near(&self, likely: usize, id: u32) -> Option<usize>
+        ensures { IsPlace id self.now result }
+    {
+        self.index.place_near(likely, id)
+    }
+
     pub(crate) fn find(&self, id: u32) -> Option<&Thread>
         ensures { option_copied result ≡ thread_in self.now id }
     {
@@ -163,6 +172,7 @@ impl Threads {
     }
 
     /// What happens to the thread at a place. The record changes where it stands.
+    #[inline(always)]
     pub(crate) fn change_at(&mut self, place: usize, change: &ThreadChange)
         requires { place < length self.old }
         ensures { (d : Thread)
@@ -172,6 +182,37 @@ impl Threads {
         if !change.turns(&self.list[place]) {
             return;
         }
+        if change.turns_marks_alone() {
+            self.change_marks(place, change);
+        } else {
+            self.change_all(place, change);
+        }
+    }
+
+    /// The same by a change after which the thread stands as before.
+    #[inline(always)]
+    fn change_marks(&mut self, place: usize, change: &ThreadChange)
+        requires place { place < length self.old }
+        requires alike { (t : Thread) → StandAlike t (thread_changed_by change.now t) }
+        ensures { (d : Thread)
+            → self.new
+            ≡ slice_set self.old place (thread_changed_by change.now (get_or self.old place d)) }
+    {
+        let thread = &mut self.list[place];
+        let had_mark = thread.stop_mark;
+        change.make(thread);
+        self.rosters
+            .rewrite_marks(had_mark, &self.list[place], place);
+    }
+
+    /// The same by any change.
+    #[inline(never)]
+    fn change_all(&mut self, place: usize, change: &ThreadChange)
+        requires { place < length self.old }
+        ensures { (d : Thread)
+            → self.new
+            ≡ slice_set self.old place (thread_changed_by change.now (get_or self.old place d)) }
+    {
         let former = self.list[place];
         change.make(&mut self.list[place]);
         self.rosters.rewrite(&former, &self.list[place], place);
@@ -179,12 +220,17 @@ impl Threads {
             .rewrite(&former, &self.list, &self.index, place);
     }
 
-    /// What happens to the thread with the id.
-    pub(crate) fn change(&mut self, id: u32, change: &ThreadChange)
+    /// What happens to the thread with the id, which is looked for first at a likely place; gives that of the thread after it.
+    #[inline(always)]
+    pub(crate) fn change_near(&mut self, likely: usize, id: u32, change: &ThreadChange) -> usize
         ensures { self.new ≡ changed id (thread_changed_by change.now) self.old }
     {
-        if let Some(place) = self.place(id) {
-            self.change_at(place, change);
+        match self.place_near(likely, id) {
+            Some(place) => {
+                self.change_at(place, change);
+                place.wrapping_add(1)
+            }
+            None => likely,
         }
     }
 

@@ -75,10 +75,12 @@ fn relist(listed: &mut Multiset, tgid: u32, shows: bool) -> bool
     ensures own { result ≡ (not shows || not (occurs tgid listed.new.numbers == 0)) }
 {
     let was = listed.contains(tgid);
-    if was && !shows {
-        listed.remove(tgid);
+    if was == shows {
+        return true;
     }
-    if !was && shows && listed.has_room() {
+    if was {
+        listed.remove(tgid);
+    } else if listed.has_room() {
         listed.insert(tgid);
     }
     !shows || listed.contains(tgid)

@@ -124,7 +124,7 @@ fn a_cont_is_noted_at_a_signal_delivery_stop(rt: HostRuntime) -> Result<(), Fail
         seized(201, 200, delivery_stop(8, 10)?, false),
     ];
     let mut table = with_threads(rt.alloc(), &threads)?;
-    table.change_members(100, &ThreadChange::NoteCont);
+    table.change_members(100, &ThreadChange::Continue(false));
     same(&rt, &thread(&table, 102)?.life.cont_came(), &true);
     same(&rt, &thread(&table, 201)?.life.cont_came(), &false);
     Ok(())
