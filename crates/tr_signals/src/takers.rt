@@ -1,13 +1,13 @@
 //! Which thread of a group takes a pending signal, and what it does with it: signal(7).
 
-ghost use Rattle.std.specs.Prelude.{◌≡◌, ℕ, IfOk, OnErr, Option, option_map};
+ghost use Rattle.std.specs.Prelude.{◌≡◌, ℕ, IfOk, IfSome, OnErr, Option, is_some, option_copied, option_map};
 ghost use Rattle.std.specs.List.{find};
 ghost use Rattle.tr_pending.specs.declared.instance.Instance.{Instance};
 ghost use Rattle.tr_model.specs.Compare.{Permits};
 ghost use Rattle.tr_model.specs.declared.events.Event.TheVariants.{TakeAny};
 ghost use Rattle.tr_model.specs.Preferred.{check, taking_by};
 ghost use Rattle.tr_model.specs.Choices.{takes_by};
-ghost use Rattle.tr_model.specs.Tables.{members};
+ghost use Rattle.tr_model.specs.Tables.{group_of, members};
 ghost use Rattle.tr_model.specs.Takes.{can_take};
 ghost use Rattle.tr_table.specs.Rows.{RowsOf};
 ghost use Rattle.tr_steps.specs.UnderWay.{IsStepOf};
@@ -17,16 +17,50 @@ use std::alloc::AllocError;
 use tr_lanes::first_ready;
 use tr_model::{Checked, Choice, Refusal, Reply};
 use tr_steps::Step;
-use tr_table::{Rows, Table};
+use tr_table::Table;
 use tr_tracee::Thread;
 
-/// The first thread of the group, in table order, that can take something.
-fn first_taker(table: &Table, tgid: u32, rows: &Rows) -> Option<Thread>
-    requires rows { RowsOf table.now.table tgid rows.now }
-    ensures { result ≡ find (can_take table.now.table) (members table.now.table tgid) }
+/// The first thread of the group, in table order, that can take something, by these words of its rows.
+fn first_taker<'a>(
+    table: &'a Table,
+    tgid: u32,
+    own: &[u64],
+    blocked: &[u64],
+    shared: u64,
+    runnable: &[u64],
+) -> Option<&'a Thread>
+    requires rows { RowsOf table.now.table tgid
+        (record { own = own.now; blocked = blocked.now; runnable = runnable.now; shared = shared }) }
+    ensures { option_copied result
+        ≡ find (can_take table.now.table) (members table.now.table tgid) }
 {
-    let place = first_ready(rows.own(), rows.blocked(), rows.shared(), rows.runnable())?;
-    table.member(tgid, place).copied()
+    let place = first_ready(own, blocked, shared, runnable)?;
+    table.member(tgid, place)
+}
+
+/// The same of a group that is in the table, by all words of its rows; `None` where it isn't there.
+#[inline(never)]
+fn taker_by_rows(table: &Table, tgid: u32) -> Option<Option<&Thread>>
+    ensures there { is_some result ≡ is_some (group_of table.now.table tgid) }
+    ensures taker { IfSome result
+        (λ o. option_copied o ≡ find (can_take table.now.table) (members table.now.table tgid)) }
+{
+    let rows = table.rows(tgid)?;
+    let (own, blocked, runnable) = (rows.own(), rows.blocked(), rows.runnable());
+    Some(first_taker(table, tgid, own, blocked, rows.shared(), runnable))
+}
+
+/// The same, by as few words as do.
+fn taker_in(table: &Table, tgid: u32) -> Option<Option<&Thread>>
+    ensures there { is_some result ≡ is_some (group_of table.now.table tgid) }
+    ensures taker { IfSome result
+        (λ o. option_copied o ≡ find (can_take table.now.table) (members table.now.table tgid)) }
+{
+    let Some(rows) = table.shared_rows(tgid) else {
+        return taker_by_rows(table, tgid);
+    };
+    let (own, blocked, runnable) = (rows.own(), rows.blocked(), rows.runnable());
+    Some(first_taker(table, tgid, own, blocked, rows.shared(), runnable))
 }
 
 fn taking_by(tid: u32, best: Option<u64>) -> Choice
@@ -45,11 +79,11 @@ fn taking_by(tid: u32, best: Option<u64>) -> Choice
 pub fn check_take_any(table: &Table, tgid: u32) -> Result<Checked, Refusal>
     ensures { (actor : ℕ) → result ≡ check table.now.table actor (TakeAny tgid) }
 {
-    let Some(rows) = table.rows(tgid) else {
+    let Some(taker) = taker_in(table, tgid) else {
         return Err(Refusal::Srch);
     };
-    match first_taker(table, tgid, &rows) {
-        Some(thread) => Ok(Checked::Due(taking_by(thread.id, best_number_for(table, &thread)))),
+    match taker {
+        Some(thread) => Ok(Checked::Due(taking_by(thread.id, best_number_for(table, thread)))),
         None => Ok(Checked::Quiet(Reply::Nothing)),
     }
 }

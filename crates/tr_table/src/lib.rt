@@ -45,7 +45,7 @@ pub use groups::GroupChange;
 pub use items::Items;
 pub use picked::Flush;
 pub use row_keys::mixed;
-pub use rows::Rows;
+pub use rows::{Rows, SharedRows};
 pub use snapshots::Snapshot;
 pub use starts::{GroupStart, Start};
 pub use table::Table;

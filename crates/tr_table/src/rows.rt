@@ -1,7 +1,8 @@
-ghost use Rattle.std.specs.Prelude.{◌≡◌, ◌<◌, ◌≤◌, IfSome, filter, is_some, length, replicate};
+ghost use Rattle.std.specs.Prelude.{◌≡◌, ◌==◌, ◌&&◌, ◌<◌, ◌≤◌, IfSome, filter, is_some, length, replicate};
 ghost use Rattle.tr_tracee.specs.Threads.{in_group};
 ghost use Rattle.tr_model.specs.Tables.{group_of};
 ghost use Rattle.tr_table.specs.Changes.{queue_in};
+ghost use Rattle.tr_table.specs.Queues.{count_own};
 ghost use Rattle.tr_table.specs.Rows.{AreOwn, IsRows, IsWord, RowsOf};
 ghost use Rattle.tr_table.specs.Slots.{IsPending, standing};
 
@@ -65,7 +66,78 @@ impl<'a> Rows<'a> {
     }
 }
 
+/// What waits for each of 64 threads where nothing waits for any.
+static NOTHING: [u64; 64] = [0; 64];
+
+/// The same words where nothing waits for a thread of the table alone: all of them are lent.
+#[derive(Drop)]
+pub struct SharedRows<'a> {
+    blocked: &'a [u64],
+    runnable: &'a [u64],
+    shared: u64,
+}
+
+impl<'a> Model for SharedRows<'a> {
+    ghost use Rattle.std.specs.Prelude.{◌≤◌, length, replicate};
+    ghost use Rattle.tr_table.specs.Rows.{RowsView};
+
+    ghost Value = { RowsView };
+
+    ghost view = { λ r. record {
+      own = replicate (length r.blocked.now) 0;
+      blocked = r.blocked.now;
+      runnable = r.runnable.now;
+      shared = r.shared;
+    } };
+
+    ghost invariant = { λ r. length r.blocked.now ≤ 64 };
+}
+
+impl<'a> SharedRows<'a> {
+    /// What waits in the own queue of each thread: nothing.
+    pub fn own(&self) -> &[u64]
+        ensures { result.now ≡ self.now.own }
+    {
+        &NOTHING[..self.blocked.len()]
+    }
+
+    /// What each thread blocks; 0 where it isn't live.
+    pub fn blocked(&self) -> &[u64]
+        ensures { result.now ≡ self.now.blocked }
+    {
+        self.blocked
+    }
+
+    /// All ones for each thread that is free and has no mark, else 0.
+    pub fn runnable(&self) -> &[u64]
+        ensures { result.now ≡ self.now.runnable }
+    {
+        self.runnable
+    }
+
+    /// What waits in the shared queue.
+    pub fn shared(&self) -> u64
+        ensures { result ≡ self.now.shared }
+    {
+        self.shared
+    }
+}
+
 impl Table {
+    /// The words of the group's threads as `rows` gives them, lent, where nothing waits for a thread of the table alone.
+    /// `None` comes for a group that isn't in the table, and where something does.
+    pub fn shared_rows(&self, tgid: u32) -> Option<SharedRows<'_>>
+        ensures there { is_some result
+            ≡ (is_some (group_of self.now.table tgid) && count_own self.now.table.waiting == 0) }
+        ensures rows { IfSome result (λ r. RowsOf self.now.table tgid r) }
+    {
+        let _group = self.groups.find(tgid)?;
+        if self.pending.waits_for_threads() {
+            return None;
+        }
+        Some(shared_rows_of(&self.threads, &self.pending, tgid))
+    }
+
     /// The words of the group's threads, as they stand now. `None` comes for a group that isn't in the table. It takes no
     /// memory.
     pub fn rows(&self, tgid: u32) -> Option<Rows<'_>>
@@ -118,6 +190,27 @@ fn own_words(pending: &Pending, ids: &[u32]) -> ArrayVec<u64, 64>
         waiting_words(pending, ids)
     } else {
         zeros(ids.len())
+    }
+}
+
+fn shared_rows_of<'a>(threads: &'a Threads, pending: &Pending, tgid: u32) -> SharedRows<'a>
+    requires few { length (filter (in_group tgid) threads.now) ≤ 64 }
+    requires kept { IsPending pending.now }
+    requires none { count_own (standing pending.now.slots.items) ≡ 0 }
+    ensures { IsRows threads.now (standing pending.now.slots.items) tgid result }
+{
+    let shared = waiting_word(pending, Target::Group(tgid));
+    match threads.roster(tgid) {
+        Some(roster) => SharedRows {
+            blocked: roster.blocked(),
+            runnable: roster.runnable(),
+            shared,
+        },
+        None => SharedRows {
+            blocked: &[],
+            runnable: &[],
+            shared,
+        },
     }
 }
 

@@ -16,6 +16,21 @@ fn rows_are_in_table_order(rt: HostRuntime) -> Result<(), Fail> {
     Ok(())
 }
 
+/// They are lent where nothing waits for a thread alone.
+#[test]
+fn rows_of_shared_signals_are_lent(rt: HostRuntime) -> Result<(), Fail> {
+    let mut table = opened(rt.alloc())?;
+    send(&mut table, 10, SHARED)?;
+    let rows = table.shared_rows(100).ok_or("nothing is lent")?;
+    assert_eq!(rt; rows.own(), [0, 0].as_slice());
+    assert_eq!(rt; rows.blocked(), [0, BLOCKED].as_slice());
+    assert_eq!(rt; rows.runnable(), [u64::MAX, u64::MAX].as_slice());
+    assert_eq!(rt; rows.shared(), 1 << 9);
+    assert!(rt; table.shared_rows(101).is_none());
+    assert!(rt; with_four(rt.alloc())?.shared_rows(100).is_none());
+    Ok(())
+}
+
 #[test]
 fn the_dead_block_nothing_and_the_marked_wait(rt: HostRuntime) -> Result<(), Fail> {
     let mut table = with_four(rt.alloc())?;
