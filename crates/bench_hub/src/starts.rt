@@ -4,7 +4,7 @@ use std::alloc::{AllocError, Global};
 use std::io;
 use tr_kernel::Kernel;
 use tr_sigset::SigSet;
-use tr_table::{GroupStart, Items, Start};
+use tr_starts::{GroupStart, Items, Start};
 
 fn item<T: Drop>(alloc: Global, item: T) -> Result<Items<T>, AllocError> {
     let mut items = Items::new(alloc);

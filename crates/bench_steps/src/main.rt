@@ -15,7 +15,8 @@ use timing::{FEW, STEPS, Timing, timed};
 use tr_kernel::Kernel;
 use tr_model::Event;
 use tr_sigset::SigSet;
-use tr_table::{Table, ThreadChange};
+use tr_table::Table;
+use tr_threads::ThreadChange;
 use waits::{idle_waits, stops, traced};
 
 /// A tracer, or another process: no thread of the table.

@@ -3,7 +3,8 @@ use std::io;
 use tr_group::Action;
 use tr_kernel::Kernel;
 use tr_sigset::{SigSet, Signal};
-use tr_table::{GroupStart, Items, Start, Table};
+use tr_starts::{GroupStart, Items, Start};
+use tr_table::Table;
 
 /// The id of the first thread. All threads have the ids from it on.
 pub const FIRST: u32 = 10;

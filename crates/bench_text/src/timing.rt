@@ -3,7 +3,8 @@ use std::io;
 use std::rt::Clock;
 use std::time::Instant;
 use tr_kernel::Kernel;
-use tr_scenario::{FromReader, Job, ScenarioFault, ToWriter, json, read, serial};
+use tr_reading::{Job, ScenarioFault, json, read};
+use tr_scenario::{FromReader, ToWriter, serial};
 use tr_status::write_thread;
 
 /// How many rounds are timed; the quickest counts.

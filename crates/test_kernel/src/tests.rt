@@ -16,7 +16,7 @@ use tr_group::Action;
 use tr_kernel::{Kernel, StartFault};
 use tr_model::{Event, Fate, Refusal, Reply, Target, Totals};
 use tr_sigset::{SigSet, Signal};
-use tr_table::{GroupStart, Items, Start};
+use tr_starts::{GroupStart, Items, Start};
 
 fn item<T: Drop>(rt: &HostRuntime, item: T) -> Result<Items<T>, Fail> {
     let mut items = Items::new(rt.alloc());

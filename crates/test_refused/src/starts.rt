@@ -1,7 +1,7 @@
 use std::alloc::{AllocError, Global};
 use tr_kernel::{Kernel, StartFault};
 use tr_sigset::SigSet;
-use tr_table::{GroupStart, Items, Start};
+use tr_starts::{GroupStart, Items, Start};
 
 fn group(alloc: Global, tgid: u32, threads: &[(u32, SigSet)]) -> Result<GroupStart, AllocError> {
     let mut group = GroupStart {

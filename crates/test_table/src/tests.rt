@@ -18,8 +18,11 @@ use std::test::Fail;
 use tr_group::Action;
 use tr_model::{Ending, Fate, Target};
 use tr_pending::{Info, Instance};
+use tr_queues::Flush;
 use tr_sigset::{SigSet, Signal};
-use tr_table::{Flush, GroupStart, Items, Start, Table, ThreadChange};
+use tr_starts::{GroupStart, Items, Start};
+use tr_table::Table;
+use tr_threads::ThreadChange;
 use tr_tracee::{End, Life, Thread};
 
 const INFO: Info = Info {

@@ -21,7 +21,7 @@ use std::test::Fail;
 use std::thread::Threads;
 use tr_model::Event;
 use tr_sigset::SigSet;
-use tr_table::{GroupStart, Items, Start};
+use tr_starts::{GroupStart, Items, Start};
 use tr_workers::{Ended, Item, Plan, Receipts, Repeat, Script, run, settle};
 
 const KILL: Event = Event::Kill { tgid: 10, sig: 10 };

@@ -3,8 +3,8 @@ use Rattle.std.proofs.Common.{◌≡◌, ◌≤◌, ◌<◌, ◌+◌, ◌∙◌,
 use Rattle.std.proofs.lemmas.List.{drop_more}
 use Rattle.std.proofs.lemmas.List.Elements.{filter-append}
 use Rattle.std.proofs.lemmas.List.Sums.{sum_by-cons}
-use Rattle.tr_scenario.specs.declared.steps.Step.{Step}
-use Rattle.tr_scenario.specs.Scenarios.{calls_of_steps}
+use Rattle.tr_reading.specs.declared.steps.Step.{Step}
+use Rattle.tr_reading.specs.Scenarios.{calls_of_steps}
 use Rattle.tr_answers.specs.declared.records.Answered.{Answered}
 use Rattle.tr_answers.specs.Comparisons.{Asked, asked_by, asked_from, known}
 

@@ -2,8 +2,8 @@
 use Rattle.std.proofs.Common.{◌≡◌, [], ◌∷◌, refl, true, Option, None, Some, codes}
 use Rattle.serde_json.specs.Data.{Data}
 use Rattle.serde_json.specs.Find.{as_str, get}
-use Rattle.tr_scenario.specs.Fields.{◌>>=◌}
-use Rattle.tr_scenario.proofs.Spared.{among, at_end, at_number, at_steps, bind, is_spared, last, of_start, of_whole, there}
+use Rattle.tr_reading.specs.Fields.{◌>>=◌}
+use Rattle.tr_reading.proofs.Spared.{among, at_end, at_number, at_steps, bind, is_spared, last, of_start, of_whole, there}
 use Rattle.tr_answers.specs.declared.records.Record.{Record}
 use Rattle.tr_answers.specs.Records.{answer_in, answer_of, answered_of, asked, walk, whole_record}
 

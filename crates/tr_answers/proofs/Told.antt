@@ -2,15 +2,15 @@
 use Rattle.std.proofs.Common.{◌≡◌, ◌≤◌, ◌⊎◌, ◌∙◌, ℕ, Bool, true, false, List, [], ◌++◌, ap, sym, refl, inl, inr, append-nil, append_assoc, length, length-append, map, nat_le, if◌then◌else◌, leb-true, subst, Result, Ok, Err, arith}
 use Rattle.serde_json.specs.Data.{Data}
 use Rattle.tr_kernel.specs.States.{State, opened}
-use Rattle.tr_table.specs.Starts.{is_good}
+use Rattle.tr_starts.specs.Starts.{is_good}
 use Rattle.tr_status.specs.Writing.{IsFront}
-use Rattle.tr_scenario.specs.declared.faults.ScenarioFault.{ScenarioFault}
-use Rattle.tr_scenario.specs.declared.faults.ScenarioFault.TheVariants.{BadStart, NoMemory, Repeated, TooLarge}
-use Rattle.tr_scenario.specs.declared.scenarios.Scenario.{Scenario}
-use Rattle.tr_scenario.specs.Fields.{◌>>=◌}
+use Rattle.tr_reading.specs.declared.faults.ScenarioFault.{ScenarioFault}
+use Rattle.tr_reading.specs.declared.faults.ScenarioFault.TheVariants.{BadStart, NoMemory, Repeated, TooLarge}
+use Rattle.tr_reading.specs.declared.scenarios.Scenario.{Scenario}
+use Rattle.tr_reading.specs.Fields.{◌>>=◌}
 use Rattle.tr_scenario.specs.Printing.{IsHalt}
 use Rattle.tr_scenario.specs.Printing as page
-use Rattle.tr_scenario.specs.Scenarios.{calls_of_steps, has_repeats, is_small, json_of, whole}
+use Rattle.tr_reading.specs.Scenarios.{calls_of_steps, has_repeats, is_small, json_of, whole}
 use Rattle.tr_scenario.specs.Sources.{Came, IsSound, Shown}
 use Rattle.tr_scenario.proofs.Halts.{front_none}
 use Rattle.tr_scenario.proofs.Wholes.{at}

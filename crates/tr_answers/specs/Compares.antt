@@ -2,8 +2,8 @@
 use Rattle.std.specs.Prelude.{◌≡◌, ◌⊎◌, ℕ, true, Bool, List, ◌++◌, Result, Ok, Err}
 use Rattle.tr_kernel.specs.States.{State, opened}
 use Rattle.tr_status.specs.Writing.{IsFront}
-use Rattle.tr_scenario.specs.declared.faults.ScenarioFault.{ScenarioFault}
-use Rattle.tr_scenario.specs.declared.faults.ScenarioFault.TheVariants.{TooLarge}
+use Rattle.tr_reading.specs.declared.faults.ScenarioFault.{ScenarioFault}
+use Rattle.tr_reading.specs.declared.faults.ScenarioFault.TheVariants.{TooLarge}
 use Rattle.tr_scenario.specs.Printing.{IsHalt}
 use Rattle.tr_scenario.specs.Serial.{Devices, IsUnread, IsUntouched}
 use Rattle.tr_scenario.specs.Sources.{Came, IsSound}

@@ -8,7 +8,7 @@ use Rattle.tr_kernel.specs.States.{State}
 use Rattle.tr_oracle.specs.Expected.{IsAnswered, MayAnswer}
 use Rattle.tr_oracle.specs.Offers.{offered}
 use Rattle.tr_status.specs.Texts.{texts}
-use Rattle.tr_scenario.specs.Kinds.{event_name}
+use Rattle.tr_reading.specs.Kinds.{event_name}
 use Rattle.tr_scenario.specs.Replies.{refusal_text, reply_text}
 use Rattle.tr_scenario.specs.RunTexts.{call_of}
 use Rattle.tr_answers.specs.declared.records.Answered.{Answered}

@@ -5,7 +5,7 @@ use Rattle.tr_model.specs.declared.replies.Reply.{Reply}
 use Rattle.tr_kernel.specs.States.{State}
 use Rattle.tr_oracle.specs.Expected.{IsAnswered}
 use Rattle.tr_status.specs.Writing.{IsFront}
-use Rattle.tr_scenario.specs.declared.faults.ScenarioFault.{ScenarioFault}
+use Rattle.tr_reading.specs.declared.faults.ScenarioFault.{ScenarioFault}
 use Rattle.tr_scenario.specs.Printing.{Fills, IsHalt}
 use Rattle.tr_answers.specs.Comparisons.{Asked, Differs, Goes, IsRefuted, difference_line, is_expected, made_line, step_text}
 use Rattle.tr_answers.specs.Compares.{Starts}

@@ -2,12 +2,12 @@
 use Rattle.std.specs.Prelude.{ℕ, List, [], ◌∷◌, Option, Some, None, Result, Ok, codes, map}
 use Rattle.serde_json.specs.Data.{Data}
 use Rattle.serde_json.specs.Find.{as_str, get}
-use Rattle.tr_scenario.specs.declared.faults.ScenarioFault.{ScenarioFault}
-use Rattle.tr_scenario.specs.declared.scenarios.Job.TheVariants.{Steps}
-use Rattle.tr_scenario.specs.declared.scenarios.Scenario.{Scenario}
-use Rattle.tr_scenario.specs.Fields.{◌>>=◌, needed, no_key_but, number_at}
-use Rattle.tr_scenario.specs.Scenarios.{read_by, start_of, whole}
-use Rattle.tr_scenario.specs.Steps.{step_among, steps_at}
+use Rattle.tr_reading.specs.declared.faults.ScenarioFault.{ScenarioFault}
+use Rattle.tr_reading.specs.declared.scenarios.Job.TheVariants.{Steps}
+use Rattle.tr_reading.specs.declared.scenarios.Scenario.{Scenario}
+use Rattle.tr_reading.specs.Fields.{◌>>=◌, needed, no_key_but, number_at}
+use Rattle.tr_reading.specs.Scenarios.{read_by, start_of, whole}
+use Rattle.tr_reading.specs.Steps.{step_among, steps_at}
 use Rattle.tr_answers.specs.declared.records.Answered.{Answered}
 use Rattle.tr_answers.specs.declared.records.Record.{Record}
 

@@ -9,7 +9,8 @@ use std::alloc::{AllocError, Global};
 use tr_kernel::Kernel;
 use tr_model::{Refusal, Reply};
 use tr_oracle::offered;
-use tr_scenario::{LineBuffer, Page, Step, prepend_call, prepend_reply, refusal_text};
+use tr_reading::Step;
+use tr_scenario::{LineBuffer, Page, prepend_call, prepend_reply, refusal_text};
 
 /// Puts an answer before a text.
 pub(crate) fn prepend_answer(text: &mut LineBuffer, answer: &Result<Reply, Refusal>)

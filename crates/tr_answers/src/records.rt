@@ -1,17 +1,17 @@
 ghost use Rattle.std.specs.Prelude.{◌≡◌, ◌<◌, ◌≤◌, length, map, nat_le, IfErr};
 ghost use Rattle.serde_json.specs.View.{view};
-ghost use Rattle.tr_scenario.specs.declared.faults.ScenarioFault.TheVariants.{NoMemory};
-ghost use Rattle.tr_scenario.specs.Fields.{Gives};
-ghost use Rattle.tr_scenario.specs.Scenarios.{IsExact, calls_of_steps};
+ghost use Rattle.tr_reading.specs.declared.faults.ScenarioFault.TheVariants.{NoMemory};
+ghost use Rattle.tr_reading.specs.Fields.{Gives};
+ghost use Rattle.tr_reading.specs.Scenarios.{IsExact, calls_of_steps};
 ghost use Rattle.tr_answers.specs.Records.{answer_of, record_in, record_of, walk, whole_record};
 
 use crate::expected::Expected;
 use serde_json::Value;
 use std::alloc::Global;
-use tr_scenario::fields::{FromJson, no_key_but, number};
-use tr_scenario::steps::{step_among, steps};
-use tr_scenario::{ScenarioFault, Step, json, repeats_in_start, start};
-use tr_table::{Items, Start};
+use tr_reading::fields::{FromJson, no_key_but, number};
+use tr_reading::steps::{step_among, steps};
+use tr_reading::{ScenarioFault, Step, json, repeats_in_start, start};
+use tr_starts::{Items, Start};
 
 /// A step, and what another system answered to each of its calls, where that is known.
 #[derive(Drop)]
@@ -55,7 +55,7 @@ fn answer(alloc: Global, value: &Value) -> Result<Option<Expected>, ScenarioFaul
 }
 
 /// Reads the record that these bytes are: a scenario of version 1, in which a step may have a text at `answer`. An `Err`
-/// is the first fault in the order of `tr_scenario::read`, or `NoMemory`, where memory was refused before that was met.
+/// is the first fault in the order of `tr_reading::read`, or `NoMemory`, where memory was refused before that was met.
 pub fn read(alloc: Global, bytes: &[u8]) -> Result<Record, ScenarioFault>
     ensures gives { Gives (λ r. r) result (record_of bytes.now) }
     ensures not_json { IsExact bytes.now result }
@@ -103,7 +103,7 @@ fn walk(alloc: Global, value: &Value) -> Result<Record, ScenarioFault>
 }
 
 /// The record, where its calls and its start are as a scenario's have to be.
-#[tactic(auto, unfolding(crate::specs::Records::whole_record, tr_scenario::specs::Scenarios::whole))]
+#[tactic(auto, unfolding(crate::specs::Records::whole_record, tr_reading::specs::Scenarios::whole))]
 fn whole(alloc: Global, record: Record) -> Result<Record, ScenarioFault>
     ensures { Gives (λ r. r) result (whole_record «record») }
 {

@@ -11,7 +11,7 @@ use Rattle.tr_model.specs.declared.events.Event.TheVariants as event
 use Rattle.tr_model.specs.Runs.{Call}
 use Rattle.tr_encoding.specs.Calls.{Field, call_data, fields, with_fields}
 use Rattle.tr_encoding.specs.Scenarios.{keep, put_some, scenario_data}
-use Rattle.tr_scenario.specs.Kinds.{event_name}
+use Rattle.tr_reading.specs.Kinds.{event_name}
 use Rattle.tr_encoding.specs.Sets.{array_data, number_data, number_list, option_names, signals_of, text_list}
 
 -- Members

@@ -14,8 +14,8 @@ use Rattle.tr_sigset.specs.Sets.{has, in_word, of_word, word_of}
 use Rattle.tr_sigset.specs.Signals.{IsSignal}
 use Rattle.tr_sigset.proofs.Members.{in_word-with, in_word-zero, same_members, single_word}
 use Rattle.tr_tracee.specs.declared.thread.Options.{Options}
-use Rattle.tr_scenario.specs.Events.{option_of, options_at}
-use Rattle.tr_scenario.specs.Fields.{each, list_of, set_at, set_of, signal_of, with_bits}
+use Rattle.tr_reading.specs.Events.{option_of, options_at}
+use Rattle.tr_reading.specs.Fields.{each, list_of, set_at, set_of, signal_of, with_bits}
 use Rattle.tr_encoding.specs.Sets.{array_data, number_data, number_list, option_names, signal_if, signals_of, signals_to, text_list}
 
 -- Signals

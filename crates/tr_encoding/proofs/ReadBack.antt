@@ -12,12 +12,12 @@ use Rattle.tr_wait.specs.declared.waits.Which.{Which}
 use Rattle.tr_model.specs.declared.events.Event.{Event}
 use Rattle.tr_model.specs.declared.events.Event.TheVariants as event
 use Rattle.tr_model.specs.Runs.{Call}
-use Rattle.tr_scenario.specs.declared.faults.ScenarioFault.TheVariants.{BadField}
-use Rattle.tr_scenario.specs.Events.{event_of, which_of}
-use Rattle.tr_scenario.specs.Fields.{each, flag_at, id_at, no_key_but, number_at, text_at, value_at}
-use Rattle.tr_scenario.specs.Groups.{how_at}
-use Rattle.tr_scenario.specs.Kinds.{fields_of, kind_at, kind_of}
-use Rattle.tr_scenario.specs.Steps.{step_among, step_of, times_of}
+use Rattle.tr_reading.specs.declared.faults.ScenarioFault.TheVariants.{BadField}
+use Rattle.tr_reading.specs.Events.{event_of, which_of}
+use Rattle.tr_reading.specs.Fields.{each, flag_at, id_at, no_key_but, number_at, text_at, value_at}
+use Rattle.tr_reading.specs.Groups.{how_at}
+use Rattle.tr_reading.specs.Kinds.{fields_of, kind_at, kind_of}
+use Rattle.tr_reading.specs.Steps.{step_among, step_of, times_of}
 use Rattle.tr_encoding.specs.Calls.{CanBeRead, HasAsked, IsReadBack, action_name, call_data, id_of, step_of_call}
 use Rattle.tr_encoding.specs.Private.{IsByte, IsInRange, IsWord}
 use Rattle.tr_encoding.specs.Sets.{number_data}

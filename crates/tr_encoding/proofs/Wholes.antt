@@ -8,18 +8,18 @@ use Rattle.serde_json.specs.Data.{Data, Members, no_members, object, put}
 use Rattle.serde_json.specs.Find.{get}
 use Rattle.serde_json.specs.Read.{read}
 use Rattle.serde_json.specs.View.{items_of}
-use Rattle.tr_table.specs.declared.starts.Start.{Start}
-use Rattle.tr_table.specs.Starts.{is_good}
+use Rattle.tr_starts.specs.declared.starts.Start.{Start}
+use Rattle.tr_starts.specs.Starts.{is_good}
 use Rattle.tr_model.specs.Runs.{Call}
-use Rattle.tr_scenario.specs.declared.faults.ScenarioFault.{ScenarioFault}
-use Rattle.tr_scenario.specs.declared.faults.ScenarioFault.TheVariants.{BadStart, NotJson, Repeated, TooLarge}
-use Rattle.tr_scenario.specs.declared.scenarios.Job.{Job}
-use Rattle.tr_scenario.specs.declared.scenarios.Job.TheVariants.{Steps, Workers}
-use Rattle.tr_scenario.specs.declared.scenarios.Scenario.{Scenario}
-use Rattle.tr_scenario.specs.declared.steps.Step.{Step}
-use Rattle.tr_scenario.specs.Fields.{◌>>=◌, no_key_but, number_at}
-use Rattle.tr_scenario.specs.Scenarios.{calls_of_steps, is_small, job_key, job_of, json_from, json_of, repeats_actor, repeats_in_start, scenario_of, start_of, walk, whole}
-use Rattle.tr_scenario.specs.Steps.{count_of, steps_at}
+use Rattle.tr_reading.specs.declared.faults.ScenarioFault.{ScenarioFault}
+use Rattle.tr_reading.specs.declared.faults.ScenarioFault.TheVariants.{BadStart, NotJson, Repeated, TooLarge}
+use Rattle.tr_reading.specs.declared.scenarios.Job.{Job}
+use Rattle.tr_reading.specs.declared.scenarios.Job.TheVariants.{Steps, Workers}
+use Rattle.tr_reading.specs.declared.scenarios.Scenario.{Scenario}
+use Rattle.tr_reading.specs.declared.steps.Step.{Step}
+use Rattle.tr_reading.specs.Fields.{◌>>=◌, no_key_but, number_at}
+use Rattle.tr_reading.specs.Scenarios.{calls_of_steps, is_small, job_key, job_of, json_from, json_of, repeats_actor, repeats_in_start, scenario_of, start_of, walk, whole}
+use Rattle.tr_reading.specs.Steps.{count_of, steps_at}
 use Rattle.tr_encoding.specs.Calls.{CanBeRead, IsReadBack, call_data, step_of_call}
 use Rattle.tr_encoding.specs.Scenarios.{ReadsBack, as_steps, put_some, scenario_data}
 use Rattle.tr_encoding.specs.Sets.{array_data, number_data}

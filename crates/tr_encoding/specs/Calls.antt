@@ -9,10 +9,10 @@ use Rattle.tr_wait.specs.declared.waits.Which.TheVariants.{Any, One}
 use Rattle.tr_model.specs.declared.events.Event.{Event}
 use Rattle.tr_model.specs.declared.events.Event.TheVariants as event
 use Rattle.tr_model.specs.Runs.{Call}
-use Rattle.tr_scenario.specs.Events.{which_of}
-use Rattle.tr_scenario.specs.Kinds.{event_name}
-use Rattle.tr_scenario.specs.Steps.{step_of}
-use Rattle.tr_scenario.specs.declared.steps.Step.{Step}
+use Rattle.tr_reading.specs.Events.{which_of}
+use Rattle.tr_reading.specs.Kinds.{event_name}
+use Rattle.tr_reading.specs.Steps.{step_of}
+use Rattle.tr_reading.specs.declared.steps.Step.{Step}
 use Rattle.tr_encoding.specs.Sets.{array_data, number_data, number_list, option_names, signals_of, text_list}
 
 -- a key, and what stands there

@@ -4,11 +4,11 @@ use Rattle.serde_json.specs.Data.{Data, Members, no_members, object, put}
 use Rattle.serde_json.specs.Find.{get}
 use Rattle.serde_json.specs.Read.{read}
 use Rattle.serde_json.specs.Written.{compact_text, has_float}
-use Rattle.tr_table.specs.declared.starts.Start.{Start}
+use Rattle.tr_starts.specs.declared.starts.Start.{Start}
 use Rattle.tr_model.specs.Runs.{Call}
-use Rattle.tr_scenario.specs.declared.scenarios.Job.TheVariants.{Steps}
-use Rattle.tr_scenario.specs.declared.scenarios.Scenario.{Scenario}
-use Rattle.tr_scenario.specs.Scenarios.{json_of, scenario_of}
+use Rattle.tr_reading.specs.declared.scenarios.Job.TheVariants.{Steps}
+use Rattle.tr_reading.specs.declared.scenarios.Scenario.{Scenario}
+use Rattle.tr_reading.specs.Scenarios.{json_of, scenario_of}
 use Rattle.tr_encoding.specs.Calls.{CanBeRead, call_data, step_of_call}
 use Rattle.tr_encoding.specs.Sets.{array_data, number_data}
 

@@ -8,7 +8,7 @@ use serde_json::{Map, Value};
 use std::alloc::{AllocError, Global};
 use std::marker::Model;
 use tr_model::Event;
-use tr_scenario::event_name;
+use tr_reading::event_name;
 
 /// An event that an actor asks for. Contracts see the model's call.
 #[derive(Clone, Copy, Debug, PartialEq, Eq)]

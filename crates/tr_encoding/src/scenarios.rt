@@ -1,7 +1,7 @@
 ghost use Rattle.std.specs.Prelude.{◌≡◌, ◌⊎◌, All, map, Err, IfErr, IfOk, OnOk};
 ghost use Rattle.serde_json.specs.View.{members_view, view};
-ghost use Rattle.tr_scenario.specs.declared.faults.ScenarioFault.TheVariants.{NoMemory};
-ghost use Rattle.tr_scenario.specs.Scenarios.{json_of};
+ghost use Rattle.tr_reading.specs.declared.faults.ScenarioFault.TheVariants.{NoMemory};
+ghost use Rattle.tr_reading.specs.Scenarios.{json_of};
 ghost use Rattle.tr_encoding.specs.Calls.{IsReadBack, call_data};
 ghost use Rattle.tr_encoding.specs.Scenarios.{HasText, ReadsBack, keep, scenario_data};
 
@@ -9,7 +9,7 @@ use crate::calls::{Call, call_value};
 use crate::objects::{put_array, put_number};
 use serde_json::{Map, Value, put};
 use std::alloc::{AllocError, Global};
-use tr_scenario::{ScenarioFault, json};
+use tr_reading::{ScenarioFault, json};
 
 /// Writes the scenario that these bytes are with calls in place of what is done there, each a step that makes it once:
 /// compact JSON, no newline behind it. The faults are those of bytes that are no JSON, and `NoMemory`.

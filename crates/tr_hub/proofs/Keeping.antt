@@ -5,7 +5,7 @@ use Rattle.tr_model.specs.declared.events.Event.{Event}
 use Rattle.tr_model.specs.declared.replies.Refusal.TheVariants.{NoMemory, JournalFull}
 use Rattle.tr_model.specs.declared.replies.Reply.{Reply}
 use Rattle.tr_model.specs.Tables.{Table}
-use Rattle.tr_table.specs.Starts.{table_of}
+use Rattle.tr_starts.specs.Starts.{table_of}
 use Rattle.tr_kernel.specs.Positions.{table_at}
 use Rattle.tr_kernel.specs.States.{State, IsEntered, IsHistory, IsQuiet, IsRefusal, entry_of}
 use Rattle.tr_kernel.proofs.Positions.{table_at_end, table_at_kept}

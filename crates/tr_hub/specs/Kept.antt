@@ -6,7 +6,7 @@ use Rattle.tr_model.specs.declared.replies.Refusal.{Refusal}
 use Rattle.tr_model.specs.declared.replies.Refusal.TheVariants.{NoMemory, JournalFull}
 use Rattle.tr_model.specs.Causes.{cause_of, quiet_of}
 use Rattle.tr_model.specs.Tables.{Table}
-use Rattle.tr_table.specs.Starts.{table_of}
+use Rattle.tr_starts.specs.Starts.{table_of}
 use Rattle.tr_kernel.specs.Positions.{table_at}
 use Rattle.tr_kernel.specs.States.{State, IsHistory}
 use Rattle.tr_kernel.specs.declared.answers.Answer.{Answer}

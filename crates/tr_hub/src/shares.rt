@@ -8,7 +8,7 @@ use tr_kernel::Answer;
 /// A ledger whose type tells the number of its parts, and the start of its hub's kernel. A hub has two ledgers: one counts
 /// entries, the other accepted signals.
 pub trait Parts: Ledger {
-    ghost use Rattle.tr_table.specs.declared.starts.Start.{Start};
+    ghost use Rattle.tr_starts.specs.declared.starts.Start.{Start};
 
     ghost all: { ℕ };
 

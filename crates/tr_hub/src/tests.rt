@@ -13,7 +13,7 @@ use std::test::Fail;
 use std::thread::Threads;
 use tr_kernel::Kernel;
 use tr_sigset::SigSet;
-use tr_table::{GroupStart, Items, Start};
+use tr_starts::{GroupStart, Items, Start};
 
 /// That a value is the one that is wanted.
 fn same<T: PartialEq + Debug>(rt: &impl Abort, value: &T, want: &T) {

@@ -9,7 +9,7 @@ use Rattle.tr_model.specs.Foreseen.{reply_before}
 use Rattle.tr_model.specs.Journals.{IsStart, Replay}
 use Rattle.tr_model.specs.Steps.{after}
 use Rattle.tr_model.specs.Tables.{Table}
-use Rattle.tr_table.specs.Starts.{table_of}
+use Rattle.tr_starts.specs.Starts.{table_of}
 use Rattle.tr_kernel.specs.Private.{entry_with}
 use Rattle.tr_kernel.specs.States.{IsHistory, State}
 use Rattle.tr_model.proofs.Bounds.{entries_are_bounded}

@@ -7,11 +7,11 @@ use Rattle.std.specs.List.{list_all}
 use Rattle.tr_sigset.specs.declared.sets.SigSet.{SigSet}
 use Rattle.tr_tracee.specs.declared.thread.Thread.{Thread}
 use Rattle.tr_model.specs.Journals.{Each, EachGroup, IsFresh, IsFreshGroup, IsStart, occurs}
-use Rattle.tr_table.specs.declared.starts.GroupStart.{GroupStart}
-use Rattle.tr_table.specs.declared.starts.Start.{Start}
-use Rattle.tr_table.specs.Starts.{all_started, group_started, ids_started, is_good, is_good_group, is_good_id, no_repeat, table_of, thread_started}
+use Rattle.tr_starts.specs.declared.starts.GroupStart.{GroupStart}
+use Rattle.tr_starts.specs.declared.starts.Start.{Start}
+use Rattle.tr_starts.specs.Starts.{all_started, group_started, ids_started, is_good, is_good_group, is_good_id, no_repeat, table_of, thread_started}
 use Rattle.tr_table.proofs.Started.{all_ids, groups_few, once}
-use Rattle.tr_table.proofs.ThreadLists.{ids_length}
+use Rattle.tr_threads.proofs.ThreadLists.{ids_length}
 
 -- Threads and groups
 

@@ -23,7 +23,7 @@ use Rattle.tr_model.specs.Waits.{ready_thread}
 use Rattle.tr_model.proofs.Compared.{one_test_decides}
 use Rattle.tr_model.proofs.Foreseeing.{replies_are_foreseen}
 use Rattle.tr_model.proofs.Standing.{numbers_accepted}
-use Rattle.tr_table.specs.Starts.{table_of}
+use Rattle.tr_starts.specs.Starts.{table_of}
 use Rattle.tr_kernel.specs.Heard.{IsHeard, call_of}
 use Rattle.tr_kernel.specs.Private.{admits_told, reply_without_send}
 use Rattle.tr_kernel.specs.States.{IsDue, IsHistory, IsMade, State}

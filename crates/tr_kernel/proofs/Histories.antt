@@ -26,8 +26,8 @@ use Rattle.tr_model.proofs.OneFate.{one_fate}
 use Rattle.tr_model.proofs.Ordered.{waiting_is_sorted}
 use Rattle.tr_model.proofs.Runs.{replay_push}
 use Rattle.tr_model.proofs.Standing.{ids_are_distinct}
-use Rattle.tr_table.specs.declared.starts.Start.{Start}
-use Rattle.tr_table.specs.Starts.{is_good, table_of}
+use Rattle.tr_starts.specs.declared.starts.Start.{Start}
+use Rattle.tr_starts.specs.Starts.{is_good, table_of}
 use Rattle.tr_kernel.specs.Fates.{fates_to}
 use Rattle.tr_kernel.specs.Private.{count_of, endings_noted, fates_after, tally}
 use Rattle.tr_kernel.specs.States.{AcceptsFew, IsEntered, IsHistory, IsMade, State}

@@ -2,7 +2,7 @@
 use Rattle.std.proofs.Common.{ℕ, zero, suc, ◌≤◌, length, take, arith}
 use Rattle.std.proofs.lemmas.Option.{none-some}
 use Rattle.tr_model.proofs.Dying.{only_dying}
-use Rattle.tr_table.specs.Starts.{table_of}
+use Rattle.tr_starts.specs.Starts.{table_of}
 use Rattle.tr_kernel.specs.Laws.{OnlyDyingAt}
 use Rattle.tr_kernel.specs.Positions.{table_at}
 use Rattle.tr_kernel.specs.States.{IsHistory, State}

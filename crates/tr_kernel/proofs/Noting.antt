@@ -19,7 +19,7 @@ use Rattle.tr_model.proofs.Among.{occurs-append}
 use Rattle.tr_model.proofs.Ordered.{waiting_is_sorted}
 use Rattle.tr_signals.proofs.Chosen.{chosen_is}
 use Rattle.tr_signals.proofs.Taking.{IsDue, due_with}
-use Rattle.tr_table.specs.Starts.{table_of}
+use Rattle.tr_starts.specs.Starts.{table_of}
 use Rattle.tr_kernel.specs.declared.notes.EntryFact.TheVariants.{Nothing, Take}
 use Rattle.tr_kernel.specs.declared.notes.Note.{Note}
 use Rattle.tr_kernel.specs.declared.notes.IdTransfer.{IdTransfer}

@@ -20,7 +20,7 @@ use Rattle.tr_model.proofs.Names.{take_renames_nothing}
 use Rattle.tr_model.proofs.Among.{occurs-append}
 use Rattle.tr_model.proofs.Order.{in_order}
 use Rattle.tr_model.proofs.Standing.{occurs-in}
-use Rattle.tr_table.specs.Starts.{table_of}
+use Rattle.tr_starts.specs.Starts.{table_of}
 use Rattle.tr_kernel.specs.declared.notes.EntryFact.{EntryFact}
 use Rattle.tr_kernel.specs.declared.notes.EntryFact.TheVariants.{Nothing, Stop, Take, Exec}
 use Rattle.tr_kernel.specs.declared.notes.Stopped.{Stopped}

@@ -18,7 +18,7 @@ use Rattle.tr_model.specs.Steps.{Admits, number, work_of}
 use Rattle.tr_model.specs.Tables.{Table, thread_of}
 use Rattle.tr_model.specs.Waits.{ready_thread}
 use Rattle.tr_model.proofs.Between.{restart_stands}
-use Rattle.tr_table.specs.Starts.{table_of}
+use Rattle.tr_starts.specs.Starts.{table_of}
 use Rattle.tr_wait.specs.declared.waits.Which.{Which}
 use Rattle.tr_kernel.specs.declared.notes.EntryFact.{EntryFact}
 use Rattle.tr_kernel.specs.declared.notes.EntryFact.TheVariants.{Nothing, Stop, Take, Exec}

@@ -12,7 +12,7 @@ use Rattle.tr_model.specs.Steps.{Admits}
 use Rattle.tr_model.specs.Tables.{Table}
 use Rattle.tr_model.proofs.Among.{occurs-append}
 use Rattle.tr_model.proofs.Consumed.{consumed_once, consumed_was_raised}
-use Rattle.tr_table.specs.Starts.{table_of}
+use Rattle.tr_starts.specs.Starts.{table_of}
 use Rattle.tr_kernel.specs.Laws.{IsWait, RaisedBefore, WaitsAt, consumed_at, report_by, report_of}
 use Rattle.tr_kernel.specs.Positions.{entry_at, table_at}
 use Rattle.tr_kernel.specs.States.{IsHistory, State}

@@ -11,8 +11,8 @@ use Rattle.tr_model.specs.Journals.{Replay, ended_by}
 use Rattle.tr_model.specs.Preferred.{preferred}
 use Rattle.tr_model.specs.Steps.{Step}
 use Rattle.tr_model.specs.Tables.{Table}
-use Rattle.tr_table.specs.declared.starts.Start.{Start}
-use Rattle.tr_table.specs.Starts.{is_good, table_of}
+use Rattle.tr_starts.specs.declared.starts.Start.{Start}
+use Rattle.tr_starts.specs.Starts.{is_good, table_of}
 use Rattle.tr_kernel.specs.Fates.{fates_to}
 
 -- what it started from, the table and the journal that it holds, the reply of each entry, the fate of each accepted number

@@ -5,13 +5,16 @@ ghost use Rattle.tr_steps.specs.UnderWay.{IsStepOf};
 ghost use Rattle.tr_kernel.specs.Private.{IsFixed, IsRare};
 
 use std::alloc::{AllocError, Global};
+use tr_ends::{
+    check_die, check_exit, check_exit_group, check_starter_wait, check_wait, die, exit, exit_group,
+    starter_wait, wait,
+};
 use tr_model::{Checked, Choice, Event, Refusal, Reply};
 use tr_requests::{
-    attach, check_attach, check_clone_thread, check_cont, check_detach, check_die,
-    check_event_message, check_exec, check_exit, check_exit_group, check_finish, check_interrupt,
-    check_listen, check_seize, check_set_options, check_signal_info, check_starter_wait,
-    check_tracer_exit, check_wait, clone_thread, cont, detach, die, exec, exit, exit_group, finish,
-    interrupt, listen, seize, set_options, starter_wait, tracer_exit, wait,
+    attach, check_attach, check_clone_thread, check_cont, check_detach, check_event_message,
+    check_exec, check_finish, check_interrupt, check_listen, check_seize, check_set_options,
+    check_signal_info, check_tracer_exit, clone_thread, cont, detach, exec, finish, interrupt,
+    listen, seize, set_options, tracer_exit,
 };
 use tr_signals::{
     check_halt, check_kill, check_mask, check_pause, check_set_action, check_sigqueue, check_take,

@@ -9,8 +9,8 @@ ghost use Rattle.tr_model.specs.declared.rows.Target.TheVariants as target;
 ghost use Rattle.tr_kernel.specs.Heard.{call_of};
 ghost use Rattle.tr_kernel.specs.Private.{admits_told, reply_without_send};
 
+use tr_ends::{admits_starter_wait, admits_wait, waited_by, waited_by_starter};
 use tr_model::{Choice, Event, Fate, Refusal, Reply, Same, Target};
-use tr_requests::{admits_starter_wait, admits_wait, waited_by, waited_by_starter};
 use tr_signals::{admits_take, admits_take_any, took_reply};
 use tr_sigset::Signal;
 use tr_steps::Step;

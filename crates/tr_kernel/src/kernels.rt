@@ -7,7 +7,7 @@ ghost use Rattle.tr_model.specs.Laws.{OneFate};
 ghost use Rattle.tr_model.specs.Causes.{cause_of};
 ghost use Rattle.tr_model.specs.Compare.{IsLet, Permits, entry_for};
 ghost use Rattle.tr_model.specs.Preferred.{check};
-ghost use Rattle.tr_table.specs.Starts.{is_good, table_of};
+ghost use Rattle.tr_starts.specs.Starts.{is_good, table_of};
 ghost use Rattle.tr_kernel.specs.declared.answers.Answer.TheVariants.{Refused};
 ghost use Rattle.tr_kernel.specs.Answers.{IfEntered, IfRead, IfRefused, IsReceipt};
 ghost use Rattle.tr_kernel.specs.Foreseen.{choice_ahead, choice_with_room, foreseen, foreseen_entry};
@@ -29,8 +29,9 @@ use crate::restarts::first_restart;
 use std::alloc::{AllocError, Global};
 use std::marker::Model;
 use tr_model::{Checked, Choice, Entry, Event, Fate, Refusal, Reply, Totals};
+use tr_starts::Start;
 use tr_steps::Step;
-use tr_table::{Start, Table};
+use tr_table::Table;
 
 /// Why a kernel can't start.
 #[derive(Clone, Copy, Debug, PartialEq, Eq)]
@@ -66,7 +67,7 @@ impl Drop for Kernel {
 }
 
 impl Model for Kernel {
-    ghost use Rattle.tr_table.specs.Starts.{table_of};
+    ghost use Rattle.tr_starts.specs.Starts.{table_of};
     ghost use Rattle.tr_kernel.specs.Notes.{IsNoted};
     ghost use Rattle.tr_kernel.specs.States.{State, IsHistory};
 

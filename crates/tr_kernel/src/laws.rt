@@ -3,7 +3,7 @@
 //! `restart_between` looks at more than two entries.
 
 ghost use Rattle.std.specs.Prelude.{◌≢◌, ◌↔◌, ◌<◌, IfSome, IsSome, IsTrue};
-ghost use Rattle.tr_table.specs.Starts.{table_of};
+ghost use Rattle.tr_starts.specs.Starts.{table_of};
 ghost use Rattle.tr_kernel.specs.Laws.{KilledBy, OnlyDyingAt, RestartBetween, TakenInOrder, TwoStops, TwoTakes, WaitsAt, consumed_at};
 ghost use Rattle.tr_kernel.specs.Private.{SameQueue};
 

@@ -2,8 +2,8 @@
 use Rattle.std.proofs.Common.{◌≡◌, ◌==◌, ◌+◌, ◌<◌, ◌≤◌, ℕ, List, [], ◌∷◌, ◌++◌, ◌∙◌, Bool, true, false, ap, refl, Option, Some, None, Result, Ok, Err, append_assoc, length, get_or, drop, codes}
 use Rattle.std.proofs.lemmas.List.{at_drop_more, drop_all, drop_more}
 use Rattle.serde_json.specs.Data.{Data}
-use Rattle.tr_scenario.specs.declared.faults.ScenarioFault.{ScenarioFault}
-use Rattle.tr_scenario.specs.declared.faults.ScenarioFault.TheVariants.{NotJson}
+use Rattle.tr_reading.specs.declared.faults.ScenarioFault.{ScenarioFault}
+use Rattle.tr_reading.specs.declared.faults.ScenarioFault.TheVariants.{NotJson}
 use Rattle.tr_mistakes.specs.Texts.{IsTold, mistake_in, position_text}
 use Rattle.tr_live.specs.Commands.{command_of, line_read, longest, opening_of}
 use Rattle.tr_live.specs.Dialogues.{Dialogue, IsAnswer, IsAnsweredIf, IsSaid, IsSaidTo, MayTell, Session, ToldOf, answer, heard, heard_byte}

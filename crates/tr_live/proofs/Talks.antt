@@ -2,7 +2,7 @@
 use Rattle.std.proofs.Common.{◌≡◌, ◌≢◌, ◌≤◌, ◌<◌, ◌+◌, ◌==◌, ℕ, List, ◌++◌, ◌∙◌, ap, sym, refl, inr, Result, Ok, Err, append_assoc, not, length, length-append, take, arith}
 use Rattle.std.proofs.lemmas.List.{append-nil, length-take-le}
 use Rattle.tr_status.specs.Writing.{IsFront}
-use Rattle.tr_scenario.specs.declared.faults.ScenarioFault.{ScenarioFault}
+use Rattle.tr_reading.specs.declared.faults.ScenarioFault.{ScenarioFault}
 use Rattle.tr_scenario.specs.declared.source.Got.TheVariants.{Bytes, Interrupted}
 use Rattle.tr_scenario.specs.Printing.{IsHalt, Prints}
 use Rattle.tr_scenario.specs.Serial.{Devices}

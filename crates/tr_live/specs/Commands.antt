@@ -3,13 +3,13 @@ use Rattle.std.specs.Prelude.{ℕ, List, [], ◌∷◌, Option, Some, None, Resu
 use Rattle.std.specs.Str.{bytes_eq}
 use Rattle.serde_json.specs.Data.{Data}
 use Rattle.serde_json.specs.Find.{as_str, get}
-use Rattle.tr_table.specs.declared.starts.Start.{Start}
-use Rattle.tr_table.specs.Starts.{is_good}
-use Rattle.tr_scenario.specs.declared.faults.ScenarioFault.{ScenarioFault}
-use Rattle.tr_scenario.specs.declared.faults.ScenarioFault.TheVariants.{BadField, BadStart, Repeated, TooLarge}
-use Rattle.tr_scenario.specs.Fields.{◌>>=◌, id_at, needed, no_key_but, number_at}
-use Rattle.tr_scenario.specs.Scenarios.{json_of, repeats_in_start, start_of}
-use Rattle.tr_scenario.specs.Steps.{step_of}
+use Rattle.tr_starts.specs.declared.starts.Start.{Start}
+use Rattle.tr_starts.specs.Starts.{is_good}
+use Rattle.tr_reading.specs.declared.faults.ScenarioFault.{ScenarioFault}
+use Rattle.tr_reading.specs.declared.faults.ScenarioFault.TheVariants.{BadField, BadStart, Repeated, TooLarge}
+use Rattle.tr_reading.specs.Fields.{◌>>=◌, id_at, needed, no_key_but, number_at}
+use Rattle.tr_reading.specs.Scenarios.{json_of, repeats_in_start, start_of}
+use Rattle.tr_reading.specs.Steps.{step_of}
 use Rattle.tr_live.specs.declared.commands.Command.{Command}
 use Rattle.tr_live.specs.declared.commands.Command.TheVariants.{Make, ShowStatus, ShowTable, ShowTotals}
 

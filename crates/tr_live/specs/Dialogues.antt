@@ -8,14 +8,14 @@ use Rattle.tr_model.specs.Journals.{totals}
 use Rattle.tr_model.specs.Runs as runs
 use Rattle.tr_model.specs.Runs.{Call, begun_at}
 use Rattle.tr_model.specs.Tables.{Table, thread_of}
-use Rattle.tr_table.specs.declared.starts.Start.{Start}
-use Rattle.tr_table.specs.Starts.{table_of}
+use Rattle.tr_starts.specs.declared.starts.Start.{Start}
+use Rattle.tr_starts.specs.Starts.{table_of}
 use Rattle.tr_kernel.specs.States as kernel
 use Rattle.tr_status.specs.Statuses.{status_text}
 use Rattle.tr_status.specs.Texts.{texts}
-use Rattle.tr_scenario.specs.declared.faults.ScenarioFault.{ScenarioFault}
-use Rattle.tr_scenario.specs.declared.steps.Step.{Step}
-use Rattle.tr_scenario.specs.Faults.{scenario_fault_name}
+use Rattle.tr_reading.specs.declared.faults.ScenarioFault.{ScenarioFault}
+use Rattle.tr_reading.specs.declared.steps.Step.{Step}
+use Rattle.tr_reading.specs.Faults.{scenario_fault_name}
 use Rattle.tr_scenario.specs.Kernels.{so_far}
 use Rattle.tr_scenario.specs.Lines.{totals_line}
 use Rattle.tr_scenario.specs.Replies.{refusal_text}

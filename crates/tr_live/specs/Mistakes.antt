@@ -3,10 +3,10 @@ use Rattle.std.specs.Prelude.{ℕ, List, [], ◌∷◌, Option, Some, None, Resu
 use Rattle.std.specs.Str.{bytes_eq}
 use Rattle.serde_json.specs.Data.{Data}
 use Rattle.serde_json.specs.Find.{as_str, get}
-use Rattle.tr_table.specs.declared.starts.Start.{Start}
-use Rattle.tr_scenario.specs.declared.faults.ScenarioFault.{ScenarioFault}
-use Rattle.tr_scenario.specs.Fields.{id_at, no_key_but, number_at}
-use Rattle.tr_scenario.specs.Scenarios.{repeats_in_start, start_of}
+use Rattle.tr_starts.specs.declared.starts.Start.{Start}
+use Rattle.tr_reading.specs.declared.faults.ScenarioFault.{ScenarioFault}
+use Rattle.tr_reading.specs.Fields.{id_at, no_key_but, number_at}
+use Rattle.tr_reading.specs.Scenarios.{repeats_in_start, start_of}
 use Rattle.tr_mistakes.specs.declared.wanted.Wanted.TheVariants.{Id}
 use Rattle.tr_mistakes.specs.Events.{field_mistake, step_mistake}
 use Rattle.tr_mistakes.specs.Groups.{start_fields_mistake}

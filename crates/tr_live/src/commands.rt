@@ -1,14 +1,14 @@
 ghost use Rattle.std.specs.Prelude.{◌≡◌, IfOk, true};
 ghost use Rattle.serde_json.specs.View.{view};
-ghost use Rattle.tr_table.specs.Starts.{is_good};
-ghost use Rattle.tr_scenario.specs.Fields.{Gives};
+ghost use Rattle.tr_starts.specs.Starts.{is_good};
+ghost use Rattle.tr_reading.specs.Fields.{Gives};
 ghost use Rattle.tr_live.specs.Commands.{command_of, line_read, opening_of, plain_command, shown_by, status_command, whole_start};
 
 use serde_json::Value;
 use std::alloc::Global;
-use tr_scenario::fields::{FromJson, id, no_key_but, number};
-use tr_scenario::{ScenarioFault, Step, json, repeats_in_start, start};
-use tr_table::Start;
+use tr_reading::fields::{FromJson, id, no_key_but, number};
+use tr_reading::{ScenarioFault, Step, json, repeats_in_start, start};
+use tr_starts::Start;
 
 /// The most bytes of a line.
 pub(crate) const LONGEST: usize = 65536;

@@ -3,7 +3,8 @@ ghost use Rattle.tr_live.specs.Conversations.{Converses};
 
 use crate::dialogues::Dialogue;
 use std::alloc::Global;
-use tr_scenario::{Got, ScenarioFault, Source};
+use tr_reading::ScenarioFault;
+use tr_scenario::{Got, Source};
 use tr_status::Sink;
 
 /// How often the reader may be interrupted.

@@ -7,7 +7,8 @@ use crate::replies::fill_answer;
 use std::alloc::{AllocError, Global};
 use std::marker::Model;
 use tr_kernel::Kernel;
-use tr_scenario::{Page, ScenarioFault, print_kept};
+use tr_reading::ScenarioFault;
+use tr_scenario::{Page, print_kept};
 use tr_status::Sink;
 
 /// A dialogue so far: the kernel that it is about, once a line opened one, and the bytes of a line that hasn't ended.

@@ -9,9 +9,10 @@ use tr_mistakes::{
     Mistaken, Wanted, is_object, push_bad_start, push_keys_mistake, push_object_wanted,
     push_start_mistake, push_twice, push_wanted_at, refused,
 };
-use tr_scenario::fields::{id, no_key_but, number};
-use tr_scenario::{Page, ScenarioFault, Step, repeats_in_start, start};
-use tr_table::Start;
+use tr_reading::fields::{id, no_key_but, number};
+use tr_reading::{ScenarioFault, Step, repeats_in_start, start};
+use tr_scenario::Page;
+use tr_starts::Start;
 
 /// What opens a dialogue: a scenario without steps.
 pub(crate) struct Opening;

@@ -1,6 +1,6 @@
 ghost use Rattle.std.specs.Prelude.{◌≡◌, ◌≢◌, ◌<◌, ◌-◌, ◌^◌, ℕ, List, ◌++◌, [], IfErr, IfOk, None, OnOk, Some, option_map};
 ghost use Rattle.tr_model.specs.Tables.{thread_of};
-ghost use Rattle.tr_scenario.specs.declared.faults.ScenarioFault.TheVariants.{NoMemory};
+ghost use Rattle.tr_reading.specs.declared.faults.ScenarioFault.TheVariants.{NoMemory};
 ghost use Rattle.tr_scenario.specs.Lines.{totals_line};
 ghost use Rattle.tr_scenario.specs.Printing.{Fills};
 ghost use Rattle.tr_live.specs.declared.commands.Command.TheVariants.{Make};
@@ -15,9 +15,8 @@ use std::alloc::{AllocError, Global};
 use tr_kernel::Kernel;
 use tr_mistakes::{Mistaken, push_told};
 use tr_model::Refusal;
-use tr_scenario::{
-    LineBuffer, Lines, Page, ScenarioFault, compose_totals, fill_calls, open, refusal_text,
-};
+use tr_reading::ScenarioFault;
+use tr_scenario::{LineBuffer, Lines, Page, compose_totals, fill_calls, open, refusal_text};
 use tr_status::{Sink, StatusBuffer, prepend_status};
 use tr_table::Table;
 use tr_tracee::Thread;

@@ -12,11 +12,11 @@ use Rattle.serde_json.specs.declared.value.Value.{Value}
 use Rattle.serde_json.specs.Data.{Data}
 use Rattle.serde_json.specs.Find.{as_object}
 use Rattle.serde_json.specs.View.{items_view, members_view, view}
-use Rattle.tr_table.proofs.Ids.{any_mapped}
+use Rattle.tr_index.proofs.Mapped.{any_mapped}
 use Rattle.tr_status.specs.Texts.{texts}
-use Rattle.tr_scenario.specs.declared.faults.ScenarioFault.{ScenarioFault}
-use Rattle.tr_scenario.specs.declared.faults.ScenarioFault.TheVariants.{BadField, BadSignal, BadStart, NoMemory, NotJson, ReadFault, Repeated, TooLarge, Unsettled, WriteFault}
-use Rattle.tr_scenario.specs.Fields.{Gives}
+use Rattle.tr_reading.specs.declared.faults.ScenarioFault.{ScenarioFault}
+use Rattle.tr_reading.specs.declared.faults.ScenarioFault.TheVariants.{BadField, BadSignal, BadStart, NoMemory, NotJson, ReadFault, Repeated, TooLarge, Unsettled, WriteFault}
+use Rattle.tr_reading.specs.Fields.{Gives}
 use Rattle.tr_mistakes.specs.Parts.{index_part, keys_mistake, keys_mistake_of, refused_member, unknown_among, unknown_key}
 use Rattle.tr_mistakes.specs.Private.{refusal, told_key}
 use Rattle.tr_mistakes.specs.Wholes.{again, first_bad}

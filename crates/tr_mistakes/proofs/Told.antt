@@ -4,25 +4,25 @@ use Rattle.std.specs.Prelude.{is_err, is_some, ⊤}
 use Rattle.serde_json.specs.Data.{Data, Items, no_items, item, Members, no_members, member}
 use Rattle.serde_json.specs.Find.{as_array, as_object, get}
 use Rattle.tr_group.specs.declared.stops.Action.{Action}
-use Rattle.tr_table.specs.declared.starts.GroupStart.{GroupStart}
+use Rattle.tr_starts.specs.declared.starts.GroupStart.{GroupStart}
 use Rattle.tr_workers.specs.declared.scripts.Item.{Item}
 use Rattle.tr_workers.specs.declared.scripts.Plan.TheVariants.{Items as Items_of, Machine}
 use Rattle.tr_workers.specs.declared.scripts.Script.{Script}
 use Rattle.tr_workers.specs.declared.scripts.Served.{Served}
-use Rattle.tr_scenario.specs.declared.steps.Step.{Step}
-use Rattle.tr_scenario.specs.declared.faults.ScenarioFault.{ScenarioFault}
-use Rattle.tr_scenario.specs.declared.faults.ScenarioFault.TheVariants.{BadField, TooLarge}
-use Rattle.tr_scenario.specs.declared.kinds.Kind.{Kind}
-use Rattle.tr_scenario.specs.declared.kinds.Kind.TheVariants.{Kill, Tgkill, Sigqueue, Mask, SetAction, Pause, Take, TakeAny, Halt, Trap, Die, CloneThread, Exec, Finish, Exit, ExitGroup, Attach, Seize, Interrupt, Cont, Listen, Detach, SetOptions, EventMessage, SignalInfo, TracerExit, Wait, StarterWait}
-use Rattle.tr_scenario.specs.declared.scenarios.Job.TheVariants.{Steps, Workers}
-use Rattle.tr_scenario.specs.declared.scenarios.Scenario.{Scenario}
-use Rattle.tr_scenario.specs.Events.{event_of, option_of, options_at}
-use Rattle.tr_scenario.specs.Fields.{◌>>=◌, each, is_one_of, id_at, keys_among, list_at, list_of, needed, no_key_but, number_at, set_at, signal_at, signal_of, text_at}
-use Rattle.tr_scenario.specs.Groups.{action_of, group_of, how_at, thread_of}
-use Rattle.tr_scenario.specs.Kinds.{fields_of, kind_at}
-use Rattle.tr_scenario.specs.Scenarios.{job_key, job_of, start_of, walk}
-use Rattle.tr_scenario.specs.Steps.{count_of, step_among, step_of, steps_at, times_of}
-use Rattle.tr_scenario.specs.Workers.{item_of, op_kind_at, op_of, plan_in, plan_of, served_of, worker_of, workers_at}
+use Rattle.tr_reading.specs.declared.steps.Step.{Step}
+use Rattle.tr_reading.specs.declared.faults.ScenarioFault.{ScenarioFault}
+use Rattle.tr_reading.specs.declared.faults.ScenarioFault.TheVariants.{BadField, TooLarge}
+use Rattle.tr_reading.specs.declared.kinds.Kind.{Kind}
+use Rattle.tr_reading.specs.declared.kinds.Kind.TheVariants.{Kill, Tgkill, Sigqueue, Mask, SetAction, Pause, Take, TakeAny, Halt, Trap, Die, CloneThread, Exec, Finish, Exit, ExitGroup, Attach, Seize, Interrupt, Cont, Listen, Detach, SetOptions, EventMessage, SignalInfo, TracerExit, Wait, StarterWait}
+use Rattle.tr_reading.specs.declared.scenarios.Job.TheVariants.{Steps, Workers}
+use Rattle.tr_reading.specs.declared.scenarios.Scenario.{Scenario}
+use Rattle.tr_reading.specs.Events.{event_of, option_of, options_at}
+use Rattle.tr_reading.specs.Fields.{◌>>=◌, each, is_one_of, id_at, keys_among, list_at, list_of, needed, no_key_but, number_at, set_at, signal_at, signal_of, text_at}
+use Rattle.tr_reading.specs.Groups.{action_of, group_of, how_at, thread_of}
+use Rattle.tr_reading.specs.Kinds.{fields_of, kind_at}
+use Rattle.tr_reading.specs.Scenarios.{job_key, job_of, start_of, walk}
+use Rattle.tr_reading.specs.Steps.{count_of, step_among, step_of, steps_at, times_of}
+use Rattle.tr_reading.specs.Workers.{item_of, op_kind_at, op_of, plan_in, plan_of, served_of, worker_of, workers_at}
 use Rattle.tr_mistakes.specs.declared.wanted.Wanted.{Wanted}
 use Rattle.tr_mistakes.specs.declared.wanted.Wanted.TheVariants as wanted
 use Rattle.tr_mistakes.specs.Events.{by_kind, event_wanted, field_mistake, fields_mistake, is_refused, item_mistake, made_mistake, op_mistake, op_wanted, option_mistake, planned_mistake, repeat_mistake, op_fields_mistake, signal_mistake, step_fields_mistake, step_mistake}

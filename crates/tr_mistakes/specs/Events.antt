@@ -3,14 +3,14 @@ use Rattle.std.specs.Prelude.{ℕ, ◌-◌, ◌^◌, List, [], ◌∷◌, ◌++�
 use Rattle.std.specs.Str.{bytes_eq}
 use Rattle.serde_json.specs.Data.{Data}
 use Rattle.serde_json.specs.Find.{get}
-use Rattle.tr_scenario.specs.declared.faults.ScenarioFault.{ScenarioFault}
-use Rattle.tr_scenario.specs.declared.kinds.Kind.{Kind}
-use Rattle.tr_scenario.specs.Events.{event_of, option_of, options_at}
-use Rattle.tr_scenario.specs.Fields.{flag_at, id_at, number_at, set_at, signal_of, value_at}
-use Rattle.tr_scenario.specs.Groups.{how_at}
-use Rattle.tr_scenario.specs.Kinds.{fields_of, kind_at}
-use Rattle.tr_scenario.specs.Steps.{times_of}
-use Rattle.tr_scenario.specs.Workers.{op_kind_at, repeat_of}
+use Rattle.tr_reading.specs.declared.faults.ScenarioFault.{ScenarioFault}
+use Rattle.tr_reading.specs.declared.kinds.Kind.{Kind}
+use Rattle.tr_reading.specs.Events.{event_of, option_of, options_at}
+use Rattle.tr_reading.specs.Fields.{flag_at, id_at, number_at, set_at, signal_of, value_at}
+use Rattle.tr_reading.specs.Groups.{how_at}
+use Rattle.tr_reading.specs.Kinds.{fields_of, kind_at}
+use Rattle.tr_reading.specs.Steps.{times_of}
+use Rattle.tr_reading.specs.Workers.{op_kind_at, repeat_of}
 use Rattle.tr_mistakes.specs.declared.wanted.Wanted.{Wanted}
 use Rattle.tr_mistakes.specs.declared.wanted.Wanted.TheVariants.{Id, Byte, Value, Flag, How, Signals, Options}
 use Rattle.tr_mistakes.specs.Parts.{in_object, keys_mistake, list_mistake, wanted_at, whole_number}

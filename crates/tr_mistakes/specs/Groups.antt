@@ -1,8 +1,8 @@
 -- The first mistake of a group, and of where a kernel starts from.
 use Rattle.std.specs.Prelude.{ℕ, List, [], ◌∷◌, codes, if◌then◌else◌, is_err}
 use Rattle.serde_json.specs.Data.{Data}
-use Rattle.tr_scenario.specs.Fields.{id_at, list_at, set_at, signal_at, text_at}
-use Rattle.tr_scenario.specs.Groups.{action_of, group_of, how_at, thread_of}
+use Rattle.tr_reading.specs.Fields.{id_at, list_at, set_at, signal_at, text_at}
+use Rattle.tr_reading.specs.Groups.{action_of, group_of, how_at, thread_of}
 use Rattle.tr_mistakes.specs.declared.wanted.Wanted.TheVariants.{How, Id, Signals}
 use Rattle.tr_mistakes.specs.Events.{field_mistake}
 use Rattle.tr_mistakes.specs.Parts.{in_object, keys_mistake, list_mistake, wanted_at}

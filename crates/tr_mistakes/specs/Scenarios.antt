@@ -2,12 +2,12 @@
 use Rattle.std.specs.Prelude.{ℕ, ◌==◌, nat_le, ◌&&◌, List, [], ◌∷◌, ◌++◌, Option, Some, None, Result, Ok, Err, codes, if◌then◌else◌, is_err}
 use Rattle.serde_json.specs.Data.{Data, Items}
 use Rattle.serde_json.specs.Find.{as_array, get}
-use Rattle.tr_scenario.specs.declared.faults.ScenarioFault.{ScenarioFault}
-use Rattle.tr_scenario.specs.declared.scenarios.Scenario.{Scenario}
-use Rattle.tr_scenario.specs.Fields.{number_at}
-use Rattle.tr_scenario.specs.Scenarios.{job_key, job_of, start_of, walk}
-use Rattle.tr_scenario.specs.Steps.{count_of, step_of}
-use Rattle.tr_scenario.specs.Workers.{worker_of}
+use Rattle.tr_reading.specs.declared.faults.ScenarioFault.{ScenarioFault}
+use Rattle.tr_reading.specs.declared.scenarios.Scenario.{Scenario}
+use Rattle.tr_reading.specs.Fields.{number_at}
+use Rattle.tr_reading.specs.Scenarios.{job_key, job_of, start_of, walk}
+use Rattle.tr_reading.specs.Steps.{count_of, step_of}
+use Rattle.tr_reading.specs.Workers.{worker_of}
 use Rattle.tr_mistakes.specs.Events.{step_mistake}
 use Rattle.tr_mistakes.specs.Groups.{start_fields_mistake}
 use Rattle.tr_mistakes.specs.Parts.{in_object, key_part, keys_mistake, refused_member, wanted_at, whole_number}

@@ -2,9 +2,9 @@
 use Rattle.std.specs.Prelude.{◌≡◌, ℕ, ◌==◌, nat_le, List, [], ◌∷◌, ◌++◌, Result, Ok, Err, codes, decimal, if◌then◌else◌, length}
 use Rattle.serde_json.specs.Data.{Data}
 use Rattle.tr_status.specs.Texts.{texts}
-use Rattle.tr_scenario.specs.declared.faults.ScenarioFault.{ScenarioFault}
-use Rattle.tr_scenario.specs.declared.faults.ScenarioFault.TheVariants.{NotJson}
-use Rattle.tr_scenario.specs.Scenarios.{json_of}
+use Rattle.tr_reading.specs.declared.faults.ScenarioFault.{ScenarioFault}
+use Rattle.tr_reading.specs.declared.faults.ScenarioFault.TheVariants.{NotJson}
+use Rattle.tr_reading.specs.Scenarios.{json_of}
 
 -- a place doesn't begin with a dot
 abbrev pub undotted : List ℕ → List ℕ

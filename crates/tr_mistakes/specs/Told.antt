@@ -2,11 +2,11 @@
 use Rattle.std.specs.Prelude.{◌≡◌, ◌==◌, ℕ, List, Bool, true, Result, is_err}
 use Rattle.std.specs.List.{list_any}
 use Rattle.serde_json.specs.Data.{Data}
-use Rattle.tr_scenario.specs.declared.faults.ScenarioFault.{ScenarioFault}
-use Rattle.tr_scenario.specs.Groups.{action_of, group_of, thread_of}
-use Rattle.tr_scenario.specs.Scenarios.{walk}
-use Rattle.tr_scenario.specs.Steps.{step_of}
-use Rattle.tr_scenario.specs.Workers.{item_of, op_of, served_of, worker_of}
+use Rattle.tr_reading.specs.declared.faults.ScenarioFault.{ScenarioFault}
+use Rattle.tr_reading.specs.Groups.{action_of, group_of, thread_of}
+use Rattle.tr_reading.specs.Scenarios.{walk}
+use Rattle.tr_reading.specs.Steps.{step_of}
+use Rattle.tr_reading.specs.Workers.{item_of, op_of, served_of, worker_of}
 use Rattle.tr_mistakes.specs.Events.{item_mistake, op_mistake, step_mistake}
 use Rattle.tr_mistakes.specs.Groups.{action_mistake, group_mistake, thread_mistake}
 use Rattle.tr_mistakes.specs.Scenarios.{scenario_mistake}

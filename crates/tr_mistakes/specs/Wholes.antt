@@ -2,14 +2,14 @@
 use Rattle.std.specs.Prelude.{ℕ, ◌+◌, ◌==◌, nat_le, List, [], ◌∷◌, ◌++◌, Bool, Option, Some, None, codes, decimal, if◌then◌else◌, length, map}
 use Rattle.std.specs.List.{list_all, list_any}
 use Rattle.tr_sigset.specs.declared.sets.SigSet.{SigSet}
-use Rattle.tr_table.specs.declared.starts.GroupStart.{GroupStart}
-use Rattle.tr_table.specs.Starts.{ids_started, is_good_group, is_good_id, is_good_name, leads, no_repeat}
+use Rattle.tr_starts.specs.declared.starts.GroupStart.{GroupStart}
+use Rattle.tr_starts.specs.Starts.{ids_started, is_good_group, is_good_id, is_good_name, leads, no_repeat}
 use Rattle.tr_status.specs.Texts.{texts}
-use Rattle.tr_scenario.specs.declared.scenarios.Job.{Job}
-use Rattle.tr_scenario.specs.declared.scenarios.Job.TheVariants.{Steps, Workers}
-use Rattle.tr_scenario.specs.declared.scenarios.Scenario.{Scenario}
-use Rattle.tr_scenario.specs.Scenarios.{is_small, repeats_actor, repeats_in_start}
-use Rattle.tr_scenario.specs.Workers.{members_of}
+use Rattle.tr_reading.specs.declared.scenarios.Job.{Job}
+use Rattle.tr_reading.specs.declared.scenarios.Job.TheVariants.{Steps, Workers}
+use Rattle.tr_reading.specs.declared.scenarios.Scenario.{Scenario}
+use Rattle.tr_reading.specs.Scenarios.{is_small, repeats_actor, repeats_in_start}
+use Rattle.tr_reading.specs.Workers.{members_of}
 use Rattle.tr_mistakes.specs.Parts.{index_part, whole_number}
 
 -- the first of a list that isn't good, after its place

@@ -2,8 +2,8 @@
 use Rattle.std.specs.Prelude.{ℕ, ◌-◌, ◌^◌, List, [], ◌∷◌, ◌++◌, Option, Some, None, codes, if◌then◌else◌, is_err}
 use Rattle.serde_json.specs.Data.{Data}
 use Rattle.serde_json.specs.Find.{as_array, get}
-use Rattle.tr_scenario.specs.Fields.{id_at, list_at, number_at}
-use Rattle.tr_scenario.specs.Workers.{item_of, op_of, plan_of, served_of}
+use Rattle.tr_reading.specs.Fields.{id_at, list_at, number_at}
+use Rattle.tr_reading.specs.Workers.{item_of, op_of, plan_of, served_of}
 use Rattle.tr_mistakes.specs.declared.wanted.Wanted.TheVariants.{Id}
 use Rattle.tr_mistakes.specs.Events.{field_mistake, item_mistake, op_mistake}
 use Rattle.tr_mistakes.specs.Parts.{in_object, key_part, keys_mistake, list_mistake, listed_mistake, wanted_at, whole_number}

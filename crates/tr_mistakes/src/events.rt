@@ -1,7 +1,7 @@
 ghost use Rattle.std.specs.Prelude.{◌≡◌, ◌++◌, IfOk, OnOk, codes, is_err, map};
 ghost use Rattle.serde_json.specs.Find.{get};
 ghost use Rattle.serde_json.specs.View.{view};
-ghost use Rattle.tr_scenario.specs.Events.{event_of};
+ghost use Rattle.tr_reading.specs.Events.{event_of};
 ghost use Rattle.tr_mistakes.specs.Events.{fields_mistake, item_mistake, made_mistake, op_mistake, option_mistake, planned_mistake, repeat_mistake, op_fields_mistake, signal_mistake, step_fields_mistake, step_mistake};
 
 use crate::lists::{Mistaken, refused};
@@ -12,12 +12,13 @@ use crate::wanted::Wanted;
 use serde_json::Value;
 use std::alloc::{AllocError, Global};
 use tr_model::Event;
-use tr_scenario::events::event;
-use tr_scenario::fields::number;
-use tr_scenario::kinds::{Kind, fields_of, kind_at};
-use tr_scenario::steps::times;
-use tr_scenario::workers::{op_kind_at, repeat};
-use tr_scenario::{Page, ScenarioFault, Step};
+use tr_reading::events::event;
+use tr_reading::fields::number;
+use tr_reading::kinds::{Kind, fields_of, kind_at};
+use tr_reading::steps::times;
+use tr_reading::workers::{op_kind_at, repeat};
+use tr_reading::{ScenarioFault, Step};
+use tr_scenario::Page;
 use tr_sigset::Signal;
 use tr_tracee::Options;
 use tr_workers::Item;

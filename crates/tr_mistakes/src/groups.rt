@@ -8,11 +8,11 @@ use crate::wanted::Wanted;
 use serde_json::Value;
 use std::alloc::{AllocError, Global};
 use tr_group::Action;
+use tr_reading::fields::{id, set, signal, text};
+use tr_reading::groups::how;
 use tr_scenario::Page;
-use tr_scenario::fields::{id, set, signal, text};
-use tr_scenario::groups::how;
 use tr_sigset::{SigSet, Signal};
-use tr_table::GroupStart;
+use tr_starts::GroupStart;
 
 impl Mistaken for (u32, SigSet) {
     ghost mistake = { thread_mistake };

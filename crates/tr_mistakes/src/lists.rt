@@ -1,16 +1,17 @@
 ghost use Rattle.std.specs.Prelude.{◌≡◌, ◌++◌, IfOk, OnOk, is_err};
 ghost use Rattle.serde_json.specs.Find.{as_array};
 ghost use Rattle.serde_json.specs.View.{items_view, view};
-ghost use Rattle.tr_scenario.specs.Fields.{list_at};
+ghost use Rattle.tr_reading.specs.Fields.{list_at};
 ghost use Rattle.tr_mistakes.specs.Parts.{list_mistake, listed_mistake, refused_member};
 ghost use Rattle.tr_mistakes.specs.Private.{refusal};
 
 use crate::parts::{push_index, push_key};
 use serde_json::Value;
 use std::alloc::{AllocError, Global};
-use tr_scenario::fields::{FromJson, list};
-use tr_scenario::{Page, ScenarioFault};
-use tr_table::Items;
+use tr_reading::ScenarioFault;
+use tr_reading::fields::{FromJson, list};
+use tr_scenario::Page;
+use tr_starts::Items;
 
 /// What is told of a value that isn't read as such a one.
 pub trait Mistaken {

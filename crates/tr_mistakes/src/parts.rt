@@ -8,8 +8,8 @@ ghost use Rattle.tr_mistakes.specs.Parts.{index_part, is_told, is_told_byte, key
 
 use serde_json::{Map, Value};
 use std::alloc::AllocError;
+use tr_reading::fields::is_in_either;
 use tr_scenario::Page;
-use tr_scenario::fields::is_in_either;
 use tr_text::TextBuffer;
 
 // The words that a mistake is told by.

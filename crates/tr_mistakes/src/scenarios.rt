@@ -1,6 +1,6 @@
 ghost use Rattle.std.specs.Prelude.{◌≡◌, ◌++◌, ◌&&◌, OnOk, Ok, Some, nat_le, option_map};
 ghost use Rattle.serde_json.specs.View.{items_view, view};
-ghost use Rattle.tr_scenario.specs.Steps.{count_of};
+ghost use Rattle.tr_reading.specs.Steps.{count_of};
 ghost use Rattle.tr_mistakes.specs.Scenarios.{fields_of_scenario_mistake, job_mistake, scenario_mistake, steps_listed, steps_mistake, version_mistake, workers_listed, workers_mistake};
 
 use crate::groups::push_start_mistake;
@@ -9,9 +9,10 @@ use crate::parts::{is_object, push_key, push_keys_mistake, push_number_at, push_
 use crate::wholes::push_whole_mistake;
 use serde_json::Value;
 use std::alloc::{AllocError, Global};
-use tr_scenario::fields::number;
-use tr_scenario::scenarios::{job_key, job_of, start, walk};
-use tr_scenario::{Page, Scenario, ScenarioFault, Step};
+use tr_reading::fields::number;
+use tr_reading::scenarios::{job_key, job_of, start, walk};
+use tr_reading::{Scenario, ScenarioFault, Step};
+use tr_scenario::Page;
 use tr_workers::Script;
 
 impl Mistaken for Scenario {
@@ -91,7 +92,7 @@ fn push_steps_mistake(
     }
 }
 
-#[tactic(auto, using(tr_scenario::proofs::Each::count_of_view))]
+#[tactic(auto, using(tr_reading::proofs::Each::count_of_view))]
 fn are_few_steps(steps: &[Value]) -> bool
     ensures { result ≡ nat_le (count_of (items_view steps.now)) 10000 }
 {
@@ -126,7 +127,7 @@ fn push_workers_mistake(
     }
 }
 
-#[tactic(auto, using(tr_scenario::proofs::Each::count_of_view))]
+#[tactic(auto, using(tr_reading::proofs::Each::count_of_view))]
 fn are_few_workers(workers: &[Value]) -> bool
     ensures { result
         ≡ (nat_le 1 (count_of (items_view workers.now)) && nat_le

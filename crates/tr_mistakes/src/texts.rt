@@ -7,7 +7,8 @@ ghost use Rattle.tr_mistakes.specs.Texts.{IsTold, mistake_in, position_text, und
 use crate::lists::Mistaken;
 use serde_json::Value;
 use std::alloc::{AllocError, Global};
-use tr_scenario::{Page, ScenarioFault, json};
+use tr_reading::{ScenarioFault, json};
+use tr_scenario::Page;
 use tr_text::TextBuffer;
 
 /// Appends what is told of bytes that a fault refuses: the line and the column at which `serde_json` finds that they are no JSON,

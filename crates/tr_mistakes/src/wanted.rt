@@ -6,10 +6,10 @@ use crate::lists::{push_list_mistake, refused};
 use crate::parts::{push_number_at, push_wanted_at};
 use serde_json::Value;
 use std::alloc::{AllocError, Global};
+use tr_reading::events::options;
+use tr_reading::fields::{byte, flag, id, set, signed};
+use tr_reading::groups::how;
 use tr_scenario::Page;
-use tr_scenario::events::options;
-use tr_scenario::fields::{byte, flag, id, set, signed};
-use tr_scenario::groups::how;
 use tr_sigset::Signal;
 use tr_tracee::Options;
 

@@ -1,18 +1,19 @@
 ghost use Rattle.std.specs.Prelude.{◌≡◌, ◌++◌, [], IfOk, None, OnOk, Some};
 ghost use Rattle.std.specs.List.{list_all};
-ghost use Rattle.tr_table.specs.Starts.{is_good_group};
+ghost use Rattle.tr_starts.specs.Starts.{is_good_group};
 ghost use Rattle.tr_mistakes.specs.Wholes.{actions_mistake, acts_once, again, bad_group, bad_id, bad_ids, bad_tid, first_bad, groups_mistake, has_good_ids, is_good_thread, large_mistake, start_mistake, started_twice, twice_mistake, whole_mistake};
 
 use crate::parts::{push_index, push_whole_number};
 use std::alloc::{AllocError, Global};
 use std::collections::BTreeSet;
 use tr_model::GREATEST_ID;
-use tr_scenario::reading::{
+use tr_reading::reading::{
     acts_twice, has_few_members, ids_of, is_small, repeats_actor, repeats_in_start,
 };
-use tr_scenario::{Job, Page, Scenario};
+use tr_reading::{Job, Scenario};
+use tr_scenario::Page;
 use tr_sigset::SigSet;
-use tr_table::{GroupStart, are_few, are_good_ids, is_good_group, is_good_name, leads};
+use tr_starts::{GroupStart, are_few, are_good_ids, is_good_group, is_good_name, leads};
 use tr_text::TextBuffer;
 
 /// Appends what is wrong with a scenario as a whole, which is refused.

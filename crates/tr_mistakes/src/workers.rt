@@ -9,9 +9,9 @@ use crate::wanted::Wanted;
 use serde_json::Value;
 use std::alloc::{AllocError, Global};
 use tr_model::Event;
+use tr_reading::fields::{id, number};
+use tr_reading::workers::plan;
 use tr_scenario::Page;
-use tr_scenario::fields::{id, number};
-use tr_scenario::workers::plan;
 use tr_workers::{Item, Script, Served};
 
 impl Mistaken for Served {

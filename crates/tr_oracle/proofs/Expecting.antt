@@ -21,7 +21,7 @@ use Rattle.tr_model.specs.Preferred.{check, clone_choice, least_new, new_id, or_
 use Rattle.tr_model.specs.Runs.{Call}
 use Rattle.tr_model.specs.Steps.{Admits, Step, after, is_new, number}
 use Rattle.tr_model.specs.Tables.{Table, thread_of}
-use Rattle.tr_table.specs.Starts.{table_of}
+use Rattle.tr_starts.specs.Starts.{table_of}
 use Rattle.tr_kernel.specs.Foreseen.{choice_ahead, choice_found, foreseen, foreseen_by}
 use Rattle.tr_kernel.specs.Heard.{HasAnswered, call_of}
 use Rattle.tr_kernel.specs.States.{IsDue, IsEntered, IsHistory, IsMade, IsQuiet, IsRefusal, State}

@@ -1,5 +1,3 @@
-pub mod Celled
-pub mod Marked
 pub mod Pictured
 pub mod Printed
 pub mod Pushed

@@ -12,31 +12,31 @@ use Rattle.tr_kernel.specs.declared.answers.Answer as kernel
 use Rattle.tr_kernel.specs.declared.answers.Answer.TheVariants as answer
 use Rattle.tr_kernel.specs.Answers.{is_entered}
 use Rattle.tr_kernel.specs.Logs.{Log, logged}
-use Rattle.tr_kernel.specs.States.{State}
-use Rattle.tr_kernel.specs.States.{opened as opened_kernel}
+use Rattle.tr_kernel.specs.States.{State, opened as opened_kernel}
 use Rattle.tr_workers.specs.Follows.{heard}
 use Rattle.tr_status.specs.Texts.{texts}
-use Rattle.tr_table.specs.Starts.{table_of}
+use Rattle.tr_starts.specs.Starts.{table_of}
 use Rattle.tr_scenario.specs.Kernels.{Answers, Makes, so_far}
-use Rattle.tr_scenario.specs.declared.faults.ScenarioFault.{ScenarioFault}
-use Rattle.tr_scenario.specs.declared.scenarios.Scenario.{Scenario}
+use Rattle.tr_reading.specs.declared.faults.ScenarioFault.{ScenarioFault}
+use Rattle.tr_reading.specs.declared.scenarios.Scenario.{Scenario}
 use Rattle.tr_scenario.specs.Lines.{totals_line}
 use Rattle.tr_scenario.specs.Observers.{Observes}
 use Rattle.tr_scenario.specs.Serial.{job_calls}
 use Rattle.tr_scenario.specs.RunTexts.{call_text, state_after}
 use Rattle.tr_picture.specs.declared.layouts.Layout.{Layout}
 use Rattle.tr_picture.specs.declared.pictures.Facts.{Facts}
-use Rattle.tr_picture.specs.declared.reports.LaneReport.{LaneReport}
-use Rattle.tr_picture.specs.declared.styles.Style.TheVariants as style
+use Rattle.tr_figures.specs.declared.reports.LaneReport.{LaneReport}
+use Rattle.tr_figures.specs.declared.styles.Style.TheVariants as style
 use Rattle.tr_picture.specs.Actors.{job_actors}
 use Rattle.tr_picture.specs.Drawn.{Drawn, begun, blank, closed, counted, drawn, reports_at, shown, times_note, with_answer, with_answered, with_call, with_groups, with_new_row, with_row, with_start_row}
-use Rattle.tr_picture.specs.Elements.{Elements, Open, all, escaped, none as no_elements, printed, rect, token_pieces, words}
-use Rattle.tr_picture.specs.Cells.{cells}
+use Rattle.tr_figures.specs.Elements.{Elements, Open, all, escaped, none as no_elements, printed, rect, token_pieces, words}
+use Rattle.tr_figures.specs.Cells.{cells}
 use Rattle.tr_picture.specs.Layouts.{lanes_left}
 use Rattle.tr_picture.specs.Rows.{is_entry, moved_down, row_inside}
 use Rattle.tr_picture.specs.Legends.{legend}
 use Rattle.tr_picture.specs.Pictures.{captions, description, facts, foot, head, hidden_note, hidden_words, life_lines, limits, lost_note, picture_description, picture, picture_from, picture_of, picture_title, reading, rows_end, sheet, summary, svg_attributes, width}
-use Rattle.tr_picture.proofs.Printed.{pushed_both, pushed_tag}
+use Rattle.tr_figures.proofs.Printed.{pushed_both}
+use Rattle.tr_picture.proofs.Printed.{pushed_tag}
 use Rattle.tr_picture.proofs.Pushed.{five_parts, pushed_four}
 
 -- a call that was made

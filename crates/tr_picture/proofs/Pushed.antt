@@ -1,11 +1,8 @@
 -- Elements that were pushed one after the other, and drawings from their parts.
-use Rattle.std.proofs.Common.{◌≡◌, ◌≤◌, ◌<◌, ◌+◌, ◌∙◌, ℕ, zero, suc, List, [], ◌∷◌, ◌++◌, ap, sym, refl, append_assoc, length, take, arith, get_or, drop, drop-cons, add-one}
-use Rattle.tr_picture.specs.Elements.{Elements, all, both, printed}
-use Rattle.tr_picture.proofs.Celled.{pushed_last}
-use Rattle.tr_picture.proofs.Printed.{printed_both, pushed_both}
-
-pub pushed_two : (old p1 new : List ℕ) (a b : Elements) → p1 ≡ old ++ printed a → new ≡ p1 ++ printed b → new ≡ old ++ printed (all (a ∷ b ∷ []))
-pushed_two old p1 new a b h1 h2 = pushed_both old p1 new a (all (b ∷ [])) h1 (pushed_last p1 new b h2)
+use Rattle.std.proofs.Common.{◌≡◌, ◌≤◌, ◌+◌, ◌∙◌, ℕ, zero, suc, List, [], ◌∷◌, ◌++◌, ap, refl, append_assoc, length, take, arith}
+use Rattle.tr_figures.specs.Elements.{Elements, all, printed}
+use Rattle.tr_figures.proofs.Printed.{pushed_both}
+use Rattle.tr_figures.proofs.Pushed.{pushed_two}
 
 pub pushed_three : (old p1 p2 new : List ℕ) (a b c : Elements) → p1 ≡ old ++ printed a → p2 ≡ p1 ++ printed b → new ≡ p2 ++ printed c → new ≡ old ++ printed (all (a ∷ b ∷ c ∷ []))
 pushed_three old p1 p2 new a b c h1 h2 h3 = pushed_both old p1 new a (all (b ∷ c ∷ [])) h1 (pushed_two p1 p2 new b c h2 h3)
@@ -31,13 +28,3 @@ three_parts old p1 p2 new a b c h1 h2 h3 =
 pub five_parts : (old p1 p2 p3 p4 new a b c d e : List ℕ) → p1 ≡ old ++ a → p2 ≡ p1 ++ b → p3 ≡ p2 ++ c → p4 ≡ p3 ++ d → new ≡ p4 ++ e → new ≡ old ++ (a ++ (b ++ (c ++ (d ++ e))))
 five_parts old p1 p2 p3 p4 new a b c d e h1 h2 h3 h4 h5 =
     three_parts p2 p3 p4 new c d e h3 h4 h5 ∙ ap (λ p. p ++ (c ++ (d ++ e))) h2 ∙ append_assoc p1 b (c ++ (d ++ e)) ∙ ap (λ p. p ++ (b ++ (c ++ (d ++ e)))) h1 ∙ append_assoc old a (b ++ (c ++ (d ++ e)))
-
--- One of several elements was pushed
-
-pub next_pushed : (page page_next text : List ℕ) (whole here rest : Elements) → whole ≡ both here rest → page ++ printed whole ≡ text → page_next ≡ page ++ printed here → page_next ++ printed rest ≡ text
-next_pushed page page_next text whole here rest parts before drawn =
-    ap (λ p. p ++ printed rest) drawn ∙ append_assoc page (printed here) (printed rest) ∙ ap (λ t. page ++ t) (sym (printed_both here rest)) ∙ ap (λ es. page ++ printed es) (sym parts) ∙ before
-
--- the first of those that are left
-pub first_left : {A : Type 0} (xs : List A) (i : ℕ) (d : A) → i < length xs → drop i xs ≡ get_or xs i d ∷ drop (i + 1) xs
-first_left xs i d h = drop-cons xs i d h ∙ ap (λ k. get_or xs i d ∷ drop k xs) (sym (add-one i))

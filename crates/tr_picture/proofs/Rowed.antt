@@ -7,21 +7,22 @@ use Rattle.tr_model.specs.Runs.{Answer, Call}
 use Rattle.tr_model.specs.Tables.{Table}
 use Rattle.tr_kernel.specs.Logs.{Log}
 use Rattle.tr_picture.specs.declared.layouts.Layout.{Layout}
-use Rattle.tr_picture.specs.declared.reports.LaneReport.{LaneReport}
-use Rattle.tr_picture.specs.declared.styles.Style.TheVariants.{Dim, Ink}
-use Rattle.tr_picture.specs.Calls.{aim_of, call_words, marks}
-use Rattle.tr_picture.specs.Cells.{cells}
-use Rattle.tr_picture.specs.Details.{detail}
-use Rattle.tr_picture.specs.Elements.{Elements, all, none, printed, text, words, escaped}
-use Rattle.tr_picture.specs.Endings.{endings_cell}
-use Rattle.tr_picture.specs.Joins.{joined, joins}
-use Rattle.tr_picture.specs.Reports.{taken_by, withdrawals}
+use Rattle.tr_figures.specs.declared.reports.LaneReport.{LaneReport}
+use Rattle.tr_figures.specs.declared.styles.Style.TheVariants.{Dim, Ink}
+use Rattle.tr_figures.specs.Calls.{aim_of, call_words, marks}
+use Rattle.tr_figures.specs.Cells.{cells}
+use Rattle.tr_figures.specs.Details.{detail}
+use Rattle.tr_figures.specs.Elements.{Elements, all, none, printed, text, words, escaped}
+use Rattle.tr_figures.specs.Endings.{endings_cell}
+use Rattle.tr_figures.specs.Joins.{joined, joins}
+use Rattle.tr_figures.specs.Reports.{taken_by, withdrawals}
 use Rattle.tr_picture.specs.Layouts.{actor_place, aimed_place, lanes_left}
 use Rattle.tr_picture.specs.Rows.{answer_words, below_raised, is_entry, position_words, raised_cell, row_inside, row_words, title}
 use Rattle.tr_picture.specs.Pictures.{sheet}
-use Rattle.tr_picture.specs.Styles.{style_sheet}
-use Rattle.tr_picture.proofs.Celled.{pushed_last}
-use Rattle.tr_picture.proofs.Printed.{pushed_both, pushed_tag}
+use Rattle.tr_figures.specs.Styles.{style_sheet}
+use Rattle.tr_figures.proofs.Celled.{pushed_last}
+use Rattle.tr_figures.proofs.Printed.{pushed_both}
+use Rattle.tr_picture.proofs.Printed.{pushed_tag}
 
 pub titled : (old p1 p2 new line : List ℕ) → p1 ≡ old ++ codes "<title>" → p2 ≡ p1 ++ escaped line → new ≡ p2 ++ codes "</title>\n" → new ≡ old ++ printed (title line)
 titled old p1 p2 new line h1 h2 h3 =

@@ -5,9 +5,9 @@ use Rattle.tr_sigset.specs.declared.sets.SigSet.{SigSet}
 use Rattle.tr_model.specs.declared.replies.Reply.TheVariants as reply
 use Rattle.tr_model.specs.declared.rows.Target.TheVariants.{Thread}
 use Rattle.tr_model.specs.Runs.{Answer, Call, Entered, Read, Refused, State, begun_at, call}
-use Rattle.tr_table.specs.declared.starts.GroupStart.{GroupStart}
-use Rattle.tr_table.specs.declared.starts.Start.{Start}
-use Rattle.tr_table.specs.Starts.{table_of}
+use Rattle.tr_starts.specs.declared.starts.GroupStart.{GroupStart}
+use Rattle.tr_starts.specs.declared.starts.Start.{Start}
+use Rattle.tr_starts.specs.Starts.{table_of}
 use Rattle.tr_status.specs.Texts.{texts}
 use Rattle.tr_scenario.specs.Observers.{observed}
 use Rattle.tr_scenario.specs.RunTexts.{call_text, state_after, unanswered}
@@ -17,11 +17,12 @@ use Rattle.tr_picture.specs.Actors.{job_actors}
 use Rattle.tr_kernel.specs.Logs.{logged}
 use Rattle.tr_picture.specs.Drawn.{Drawn, actor_heads, begun, blank, closed, drawn, group_head, placed, reports_at, start_row, thread_head, times_note, with_answer, with_answered, with_elements, with_group, with_groups, with_row, with_thread, with_threads}
 use Rattle.tr_picture.specs.Draws.{ArePictures}
-use Rattle.tr_picture.specs.Elements.{Elements, Open, both, none, printed, tag, token_pieces}
+use Rattle.tr_figures.specs.Elements.{Elements, Open, both, none, printed, tag, token_pieces}
 use Rattle.tr_picture.specs.Layouts.{has_lane, lanes_right}
 use Rattle.tr_picture.specs.Pictures.{facts, foot, head, height, picture, picture_of, svg_attributes, width}
 use Rattle.tr_picture.specs.Rows.{is_entry, moved_down, row_inside}
-use Rattle.tr_picture.proofs.Printed.{printed_both, pushed_tag}
+use Rattle.tr_figures.proofs.Printed.{printed_both}
+use Rattle.tr_picture.proofs.Printed.{pushed_tag}
 use Rattle.tr_picture.proofs.Pushed.{three_parts}
 
 -- the text of some elements

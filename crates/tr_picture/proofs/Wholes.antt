@@ -1,10 +1,10 @@
 -- A run that is drawn, from its parts.
 use Rattle.std.proofs.Common.{◌≡◌, ◌⊎◌, ℕ, true, List, inl, inr, length, Result, Ok, Err}
-use Rattle.tr_scenario.specs.declared.faults.ScenarioFault.{ScenarioFault}
-use Rattle.tr_scenario.specs.declared.faults.ScenarioFault.TheVariants.{NoMemory}
-use Rattle.tr_scenario.specs.declared.scenarios.Scenario.{Scenario}
+use Rattle.tr_reading.specs.declared.faults.ScenarioFault.{ScenarioFault}
+use Rattle.tr_reading.specs.declared.faults.ScenarioFault.TheVariants.{NoMemory}
+use Rattle.tr_reading.specs.declared.scenarios.Scenario.{Scenario}
 use Rattle.tr_scenario.specs.Printing.{Prints}
-use Rattle.tr_scenario.specs.Scenarios.{scenario_of}
+use Rattle.tr_reading.specs.Scenarios.{scenario_of}
 use Rattle.tr_scenario.specs.Sources.{Came, IsSound, Shown}
 use Rattle.tr_scenario.proofs.Wholes.{at, has_read, refusal}
 use Rattle.tr_picture.specs.Draws.{Draws}

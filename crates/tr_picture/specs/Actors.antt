@@ -1,10 +1,10 @@
 -- The actors of a job that have lanes: those that ask for something, or that are workers.
 use Rattle.std.specs.Prelude.{ℕ, ◌==◌, List, [], ◌∷◌, ◌++◌, if◌then◌else◌, map}
 use Rattle.std.specs.List.{list_any}
-use Rattle.tr_scenario.specs.declared.scenarios.Job.{Job}
-use Rattle.tr_scenario.specs.declared.scenarios.Job.TheVariants.{Steps, Workers}
-use Rattle.tr_scenario.specs.declared.steps.Step.{Step}
-use Rattle.tr_picture.specs.Calls.{is_own}
+use Rattle.tr_reading.specs.declared.scenarios.Job.{Job}
+use Rattle.tr_reading.specs.declared.scenarios.Job.TheVariants.{Steps, Workers}
+use Rattle.tr_reading.specs.declared.steps.Step.{Step}
+use Rattle.tr_figures.specs.Calls.{is_own}
 
 abbrev pub with_actor : List ℕ → ℕ → List ℕ
 with_actor actors a = if list_any (λ b. b == a) actors then actors else actors ++ a ∷ []

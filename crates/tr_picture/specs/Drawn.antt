@@ -7,18 +7,18 @@ use Rattle.tr_model.specs.declared.rows.Target.TheVariants.{Thread}
 use Rattle.tr_model.specs.Runs.{Answer, Call, Entered, State, call}
 use Rattle.tr_model.specs.Tables.{Table}
 use Rattle.tr_kernel.specs.Logs.{Log, logged}
-use Rattle.tr_table.specs.declared.starts.GroupStart.{GroupStart}
-use Rattle.tr_table.specs.declared.starts.Start.{Start}
-use Rattle.tr_table.specs.Starts.{table_of}
+use Rattle.tr_starts.specs.declared.starts.GroupStart.{GroupStart}
+use Rattle.tr_starts.specs.declared.starts.Start.{Start}
+use Rattle.tr_starts.specs.Starts.{table_of}
 use Rattle.tr_status.specs.Texts.{texts}
 use Rattle.tr_scenario.specs.RunTexts.{call_text, state_after}
 use Rattle.tr_picture.specs.declared.layouts.Layout.{Layout}
-use Rattle.tr_picture.specs.declared.reports.LaneReport.{LaneReport}
-use Rattle.tr_picture.specs.declared.styles.Style.TheVariants as style
-use Rattle.tr_picture.specs.Cells.{cells}
-use Rattle.tr_picture.specs.Elements.{Elements, Open, all, both, none, printed, tag, token_pieces, words}
+use Rattle.tr_figures.specs.declared.reports.LaneReport.{LaneReport}
+use Rattle.tr_figures.specs.declared.styles.Style.TheVariants as style
+use Rattle.tr_figures.specs.Cells.{cells}
+use Rattle.tr_figures.specs.Elements.{Elements, Open, all, both, none, printed, tag, token_pieces, words}
 use Rattle.tr_picture.specs.Layouts.{has_lane, lanes_left, lanes_right, layout_of, with_group_lane, with_thread_lane}
-use Rattle.tr_picture.specs.Reports.{lane_report}
+use Rattle.tr_figures.specs.Reports.{lane_report}
 use Rattle.tr_picture.specs.Rows.{is_entry, moved_down, row_inside}
 
 pub record Drawn : Type 0 where

@@ -1,11 +1,11 @@
 -- A run that is drawn, by what its reader and its writer show.
 use Rattle.std.specs.Prelude.{◌≡◌, ◌⊎◌, ℕ, List, ◌++◌, Result, Ok, Err}
 use Rattle.tr_status.specs.Writing.{IsFront}
-use Rattle.tr_scenario.specs.declared.faults.ScenarioFault.{ScenarioFault}
-use Rattle.tr_scenario.specs.declared.scenarios.Scenario.{Scenario}
+use Rattle.tr_reading.specs.declared.faults.ScenarioFault.{ScenarioFault}
+use Rattle.tr_reading.specs.declared.scenarios.Scenario.{Scenario}
 use Rattle.tr_scenario.specs.Printing.{IsHalt}
 use Rattle.tr_scenario.specs.Serial.{Devices, HasRead, IsRefused, IsUnread}
-use Rattle.tr_picture.specs.Elements.{Elements, printed}
+use Rattle.tr_figures.specs.Elements.{Elements, printed}
 use Rattle.tr_picture.specs.Pictures.{picture}
 
 -- the picture of the run was written

@@ -1,8 +1,8 @@
 -- The legend: what the classes and the letters of a picture mean.
 use Rattle.std.specs.Prelude.{ℕ, ◌+◌, List, [], ◌∷◌, codes}
-use Rattle.tr_picture.specs.declared.styles.Style.{Style}
-use Rattle.tr_picture.specs.declared.styles.Style.TheVariants as style
-use Rattle.tr_picture.specs.Elements.{Elements, all, both, line, none, rect, words}
+use Rattle.tr_figures.specs.declared.styles.Style.{Style}
+use Rattle.tr_figures.specs.declared.styles.Style.TheVariants as style
+use Rattle.tr_figures.specs.Elements.{Elements, all, both, line, none, rect, words}
 
 -- the blocks of threads and of groups
 abbrev pub block_meanings : List (Style × List ℕ)

@@ -1,16 +1,7 @@
 pub mod Actors
-pub mod Calls
-pub mod Cells
-pub mod Details
 pub mod Drawn
 pub mod Draws
-pub mod Elements
-pub mod Endings
-pub mod Joins
 pub mod Layouts
 pub mod Legends
-pub mod Lives
 pub mod Pictures
-pub mod Reports
 pub mod Rows
-pub mod Styles

@@ -4,22 +4,22 @@ use Rattle.tr_model.specs.declared.fates.Totals.{Totals}
 use Rattle.tr_model.specs.Journals.{totals}
 use Rattle.tr_model.specs.Runs.{Call, State, begun_at}
 use Rattle.tr_model.specs.Tables.{Table}
-use Rattle.tr_table.specs.Starts.{table_of}
+use Rattle.tr_starts.specs.Starts.{table_of}
 use Rattle.tr_status.specs.Texts.{texts}
-use Rattle.tr_scenario.specs.declared.scenarios.Scenario.{Scenario}
+use Rattle.tr_reading.specs.declared.scenarios.Scenario.{Scenario}
 use Rattle.tr_scenario.specs.Lines.{totals_line}
 use Rattle.tr_scenario.specs.Observers.{observed}
 use Rattle.tr_scenario.specs.RunTexts.{state_after}
 use Rattle.tr_scenario.specs.Serial.{job_calls}
 use Rattle.tr_picture.specs.declared.layouts.Layout.{Layout}
 use Rattle.tr_picture.specs.declared.pictures.Facts.{Facts}
-use Rattle.tr_picture.specs.declared.styles.Style.TheVariants as style
+use Rattle.tr_figures.specs.declared.styles.Style.TheVariants as style
 use Rattle.tr_picture.specs.Actors.{job_actors}
 use Rattle.tr_picture.specs.Drawn.{Drawn, begun, closed, drawn}
-use Rattle.tr_picture.specs.Elements.{Attribute, Box, Elements, Open, Word, all, both, line, none, number_at, printed, rect, tag, text, token_pieces, words}
+use Rattle.tr_figures.specs.Elements.{Attribute, Box, Elements, Open, Word, all, both, line, none, number_at, printed, rect, tag, text, token_pieces, words}
 use Rattle.tr_picture.specs.Layouts.{lanes_right}
 use Rattle.tr_picture.specs.Legends.{legend}
-use Rattle.tr_picture.specs.Styles.{style_sheet}
+use Rattle.tr_figures.specs.Styles.{style_sheet}
 
 -- Sizes
 

@@ -5,17 +5,17 @@ use Rattle.tr_model.specs.Runs.{Answer, Call, Entered, Read, Refused}
 use Rattle.tr_model.specs.Tables.{Table}
 use Rattle.tr_kernel.specs.Logs.{Log}
 use Rattle.tr_scenario.specs.Replies.{refusal_text, reply_text}
-use Rattle.tr_picture.specs.declared.styles.Style.TheVariants as style
-use Rattle.tr_picture.specs.Calls.{aim_of, call_words, marks}
-use Rattle.tr_picture.specs.Cells.{cells}
-use Rattle.tr_picture.specs.Details.{detail}
-use Rattle.tr_picture.specs.Elements.{Attribute, Down, Elements, all, none, tag, text, words}
+use Rattle.tr_figures.specs.declared.styles.Style.TheVariants as style
+use Rattle.tr_figures.specs.Calls.{aim_of, call_words, marks}
+use Rattle.tr_figures.specs.Cells.{cells}
+use Rattle.tr_figures.specs.Details.{detail}
+use Rattle.tr_figures.specs.Elements.{Attribute, Down, Elements, all, none, tag, text, words}
 use Rattle.tr_picture.specs.declared.layouts.Layout.{Layout}
-use Rattle.tr_picture.specs.declared.reports.LaneReport.{LaneReport}
-use Rattle.tr_picture.specs.Endings.{endings_cell}
-use Rattle.tr_picture.specs.Joins.{joined, joins}
+use Rattle.tr_figures.specs.declared.reports.LaneReport.{LaneReport}
+use Rattle.tr_figures.specs.Endings.{endings_cell}
+use Rattle.tr_figures.specs.Joins.{joined, joins}
 use Rattle.tr_picture.specs.Layouts.{actor_place, aimed_place, lanes_left}
-use Rattle.tr_picture.specs.Reports.{taken_by, withdrawals}
+use Rattle.tr_figures.specs.Reports.{taken_by, withdrawals}
 
 -- the place of its entry in a journal of n entries
 abbrev pub position_words : ℕ → Answer → List ℕ

@@ -2,10 +2,10 @@ ghost use Rattle.std.specs.Prelude.{◌≡◌, ◌++◌, ◌==◌, IfOk, OnOk, m
 ghost use Rattle.std.specs.List.{list_any};
 ghost use Rattle.tr_picture.specs.Actors.{job_actors, with_actor, with_step, with_steps};
 
-use crate::calls::is_own;
 use std::alloc::{AllocError, Global};
-use tr_scenario::{Job, Step};
-use tr_table::Items;
+use tr_figures::is_own;
+use tr_reading::{Job, Step};
+use tr_starts::Items;
 use tr_workers::Script;
 
 /// Lists the actors of a job that have lanes: of steps those that ask for something, in the order in which they come, of

@@ -3,24 +3,22 @@ ghost use Rattle.std.specs.Str.{bytes_eq};
 ghost use Rattle.tr_workers.specs.Follows.{heard};
 ghost use Rattle.tr_scenario.specs.RunTexts.{call_of};
 ghost use Rattle.tr_picture.specs.Drawn.{Drawn, actor_head, actor_heads, blank, closed, group_head, placed, reports_at, shown, thread_head, times_note, with_answer, with_call, with_group, with_groups, with_new_row, with_row, with_start_row, with_thread, with_threads};
-ghost use Rattle.tr_picture.specs.declared.styles.Style.TheVariants.{Ink};
-ghost use Rattle.tr_picture.specs.Elements.{printed, words};
+ghost use Rattle.tr_figures.specs.declared.styles.Style.TheVariants.{Ink};
+ghost use Rattle.tr_figures.specs.Elements.{printed, words};
 ghost use Rattle.tr_picture.specs.Layouts.{IsLaidOut};
 
-use crate::cells::push_cells;
-use crate::elements::{push_number, push_words};
 use crate::layouts::Layout;
-use crate::reports::{LaneReport, list_reports};
 use crate::rows::{push_group_start, push_row_inside};
-use crate::styles::Style;
 use itoa::Buffer;
 use std::alloc::{AllocError, Global};
 use std::marker::Model;
+use tr_figures::{LaneReport, Style, list_reports, push_cells, push_number, push_words};
 use tr_kernel::{Answer, Kernel, StepLog};
 use tr_model::{Event, Reply, Target};
 use tr_scenario::Page;
 use tr_sigset::SigSet;
-use tr_table::{GroupStart, Table};
+use tr_starts::GroupStart;
+use tr_table::Table;
 
 /// The most rows of a picture.
 const MOST_ROWS: u64 = 200;

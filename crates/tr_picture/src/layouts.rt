@@ -4,7 +4,7 @@ ghost use Rattle.tr_picture.specs.Layouts.{IsSmall, actor_place, aimed_place, ha
 
 use std::alloc::{AllocError, Global};
 use tr_model::Target;
-use tr_table::Items;
+use tr_starts::Items;
 
 /// Who has a lane, in the order of the lanes, and how many have none.
 #[derive(Drop)]

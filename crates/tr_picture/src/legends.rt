@@ -1,10 +1,9 @@
 ghost use Rattle.std.specs.Prelude.{◌≡◌, ◌<◌, ◌+◌, ◌++◌, ◌^◌, OnOk, map};
-ghost use Rattle.tr_picture.specs.Elements.{printed};
+ghost use Rattle.tr_figures.specs.Elements.{printed};
 ghost use Rattle.tr_picture.specs.Legends.{arrow_item, arrow_items, arrow_meanings, block_item, block_items, block_meanings, legend, word_item, word_items, word_meanings};
 
-use crate::elements::{push_line, push_rect, push_words};
-use crate::styles::Style;
 use std::alloc::AllocError;
+use tr_figures::{Style, push_line, push_rect, push_words};
 use tr_scenario::Page;
 
 /// What a class means, in words.

@@ -1,22 +1,21 @@
 ghost use Rattle.std.specs.Prelude.{◌≡◌, ◌<◌, ◌≤◌, ◌+◌, ◌*◌, ◌++◌, ◌^◌, ◌∷◌, [], OnOk, codes, length, map};
 ghost use Rattle.tr_scenario.specs.Lines.{totals_line};
 ghost use Rattle.tr_status.specs.Texts.{texts};
-ghost use Rattle.tr_picture.specs.declared.styles.Style.TheVariants.{Dim, Ink, Refused};
+ghost use Rattle.tr_figures.specs.declared.styles.Style.TheVariants.{Dim, Ink, Refused};
 ghost use Rattle.tr_picture.specs.Draws.{ArePictures};
-ghost use Rattle.tr_picture.specs.Elements.{Open, escaped, printed, token_pieces, words};
+ghost use Rattle.tr_figures.specs.Elements.{Open, escaped, printed, token_pieces, words};
 ghost use Rattle.tr_picture.specs.Layouts.{IsSmall};
 ghost use Rattle.tr_picture.specs.Pictures.{captions, description, foot, has_hidden, head, height, hidden_note, hidden_words, life_line, life_lines, limits, lost_note, picture_description, picture_of, picture_title, rows_end, sheet, summary, svg_attributes, width};
 
 use crate::canvas::Canvas;
-use crate::elements::{
-    push_escaped, push_escaped_pieces, push_line, push_number, push_pieces, push_rect, push_words,
-    push_words_begin,
-};
 use crate::layouts::Layout;
 use crate::legends::push_legend;
-use crate::styles::{Style, style_sheet};
 use itoa::Buffer;
 use std::alloc::AllocError;
+use tr_figures::{
+    Style, push_escaped, push_escaped_pieces, push_line, push_number, push_pieces, push_rect,
+    push_words, push_words_begin, style_sheet,
+};
 use tr_model::Totals;
 use tr_scenario::{LineBuffer, Page, compose_totals};
 

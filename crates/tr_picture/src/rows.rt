@@ -2,23 +2,19 @@ ghost use Rattle.std.specs.Prelude.{◌≡◌, ◌∷◌, ◌++◌, ◌≤◌, �
 ghost use Rattle.tr_status.specs.Texts.{texts};
 ghost use Rattle.tr_workers.specs.Follows.{heard};
 ghost use Rattle.tr_scenario.specs.RunTexts.{call_of};
-ghost use Rattle.tr_picture.specs.declared.styles.Style.TheVariants.{Dim, Ink, Report};
-ghost use Rattle.tr_picture.specs.Elements.{Open, printed, token_pieces, words};
+ghost use Rattle.tr_figures.specs.declared.styles.Style.TheVariants.{Dim, Ink, Report};
+ghost use Rattle.tr_figures.specs.Elements.{Open, printed, token_pieces, words};
 ghost use Rattle.tr_picture.specs.Layouts.{IsSmall};
 ghost use Rattle.tr_scenario.specs.Replies.{reply_text};
 ghost use Rattle.tr_picture.specs.Rows.{answer_words, below_raised, is_entry, last_report, moved_down, position_words, raised_cell, raised_words, row_inside, row_words, title};
 
-use crate::calls::{aim_of, push_call, push_marks};
-use crate::cells::push_cells;
-use crate::details::push_detail;
-use crate::elements::{push_escaped, push_pieces, push_words};
-use crate::endings::push_endings;
-use crate::joins::{joined, push_joins};
 use crate::layouts::Layout;
-use crate::reports::{LaneReport, push_withdrawals, taken_by};
-use crate::styles::Style;
 use itoa::Buffer;
 use std::alloc::AllocError;
+use tr_figures::{
+    LaneReport, Style, aim_of, joined, push_call, push_cells, push_detail, push_endings,
+    push_escaped, push_joins, push_marks, push_pieces, push_withdrawals, push_words, taken_by,
+};
 use tr_kernel::{Answer, StepLog};
 use tr_model::{Event, Raise, Reply};
 use tr_scenario::{LineBuffer, Page, prepend_reply, refusal_text};

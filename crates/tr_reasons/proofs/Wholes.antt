@@ -1,10 +1,10 @@
 -- A run that is explained, from its parts.
 use Rattle.std.proofs.Common.{◌≡◌, ◌⊎◌, ap, ℕ, true, List, inl, inr, length, refl, Result, Ok, Err}
-use Rattle.tr_scenario.specs.declared.faults.ScenarioFault.{ScenarioFault}
-use Rattle.tr_scenario.specs.declared.faults.ScenarioFault.TheVariants.{NoMemory, ReadFault}
-use Rattle.tr_scenario.specs.declared.scenarios.Scenario.{Scenario}
+use Rattle.tr_reading.specs.declared.faults.ScenarioFault.{ScenarioFault}
+use Rattle.tr_reading.specs.declared.faults.ScenarioFault.TheVariants.{NoMemory, ReadFault}
+use Rattle.tr_reading.specs.declared.scenarios.Scenario.{Scenario}
 use Rattle.tr_scenario.specs.Printing.{Prints}
-use Rattle.tr_scenario.specs.Scenarios.{scenario_of}
+use Rattle.tr_reading.specs.Scenarios.{scenario_of}
 use Rattle.tr_scenario.specs.Serial.{run_text}
 use Rattle.tr_scenario.specs.Sources.{Came, IsSound, IsToBlame, Shown}
 use Rattle.tr_scenario.proofs.Wholes.{at, ended_at_fault, has_read}

@@ -1,12 +1,12 @@
 -- A run that is explained, by what its reader and its writer show.
 use Rattle.std.specs.Prelude.{◌≡◌, ◌⊎◌, ℕ, true, List, [], ◌∷◌, Result, Ok, Err, codes}
-use Rattle.tr_scenario.specs.declared.faults.ScenarioFault.{ScenarioFault}
-use Rattle.tr_scenario.specs.declared.faults.ScenarioFault.TheVariants.{TooLarge}
-use Rattle.tr_scenario.specs.declared.scenarios.Scenario.{Scenario}
-use Rattle.tr_scenario.specs.Faults.{scenario_fault_name}
+use Rattle.tr_reading.specs.declared.faults.ScenarioFault.{ScenarioFault}
+use Rattle.tr_reading.specs.declared.faults.ScenarioFault.TheVariants.{TooLarge}
+use Rattle.tr_reading.specs.declared.scenarios.Scenario.{Scenario}
+use Rattle.tr_reading.specs.Faults.{scenario_fault_name}
 use Rattle.tr_scenario.specs.Printing.{Prints}
 use Rattle.tr_status.specs.Texts.{texts}
-use Rattle.tr_scenario.specs.Scenarios.{scenario_of}
+use Rattle.tr_reading.specs.Scenarios.{scenario_of}
 use Rattle.tr_scenario.specs.Serial.{Devices, IsHalted, IsUnread, IsWhole}
 use Rattle.tr_scenario.specs.Sources.{Came, IsSound}
 use Rattle.tr_mistakes.specs.Scenarios.{scenario_mistake}

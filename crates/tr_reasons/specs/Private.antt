@@ -1,7 +1,7 @@
 -- What only private functions' contracts cite.
 use Rattle.std.specs.Prelude.{◌≡◌, ◌≢◌, ◌⊎◌, ℕ, List, Result, Ok, Err}
-use Rattle.tr_scenario.specs.declared.faults.ScenarioFault.{ScenarioFault}
-use Rattle.tr_scenario.specs.declared.faults.ScenarioFault.TheVariants.{NoMemory}
+use Rattle.tr_reading.specs.declared.faults.ScenarioFault.{ScenarioFault}
+use Rattle.tr_reading.specs.declared.faults.ScenarioFault.TheVariants.{NoMemory}
 use Rattle.tr_reasons.specs.Explains.{TellsFault}
 
 -- bytes are refused: their fault is told, unless memory is refused before

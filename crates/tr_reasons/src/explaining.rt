@@ -1,12 +1,13 @@
 ghost use Rattle.std.specs.Prelude.{◌≡◌, ◌↔◌, ◌<◌, ◌+◌, ◌-◌, ◌^◌, IfOk, IsTrue};
-ghost use Rattle.tr_scenario.specs.declared.faults.ScenarioFault.TheVariants.{NoMemory};
+ghost use Rattle.tr_reading.specs.declared.faults.ScenarioFault.TheVariants.{NoMemory};
 ghost use Rattle.tr_reasons.specs.Explains.{Explains, IsFaultLine};
 ghost use Rattle.tr_reasons.specs.Private.{Refuses};
 
 use crate::telling::Explained;
 use std::alloc::{AllocError, Global};
 use tr_mistakes::push_told;
-use tr_scenario::{Page, Scenario, ScenarioFault, Source, print_kept, read, read_all, run};
+use tr_reading::{Scenario, ScenarioFault, read};
+use tr_scenario::{Page, Source, print_kept, read_all, run};
 use tr_status::Sink;
 
 /// Reads a scenario and runs it as `tr_scenario::serial` does, and prints below the line of each call why it was refused, what

@@ -7,8 +7,8 @@ ghost use Rattle.tr_reasons.specs.declared.reasons.Reason.TheVariants.{NotLeavin
 ghost use Rattle.tr_tracee.specs.Lives.{is_leaving};
 
 use crate::reasons::Reason;
+use tr_ends::check_starter_wait;
 use tr_model::{Event, MOST_MEMBERS, MOST_THREADS};
-use tr_requests::check_starter_wait;
 use tr_signals::script;
 use tr_sigset::Signal;
 use tr_table::Table;

@@ -12,7 +12,8 @@ use crate::sentences::{Sentence, full_sentence, push_lines, quiet_sentence};
 use crate::stops::thread_sentence;
 use tr_kernel::{Answer, Kernel};
 use tr_model::{Event, Reply};
-use tr_scenario::{Page, ScenarioFault, Telling, make_call};
+use tr_reading::ScenarioFault;
+use tr_scenario::{Page, Telling, make_call};
 use tr_table::Table;
 
 /// What is known of a call before it is made.

@@ -13,7 +13,7 @@ use Rattle.tr_model.specs.Preferred.{check, quiet_or}
 use Rattle.tr_model.specs.Tracers.{tracees}
 use Rattle.tr_model.specs.Choices.{no_choice}
 use Rattle.tr_model.specs.Tables.{Table}
-use Rattle.tr_requests.proofs.Firsts.{any_is_left}
+use Rattle.tr_ends.proofs.Firsts.{any_is_left}
 use Rattle.tr_requests.specs.Private.{is_to_kill}
 
 pub killed_of_tracees : (a : ℕ) (ts : List Thread) → filter (is_to_kill a) ts ≡ filter (λ t. (options_of t.trace).exitkill && not (is_dead t.life)) (filter (is_tracee_of a) ts)

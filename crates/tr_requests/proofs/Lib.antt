@@ -1,5 +1,3 @@
-mod Firsts
-mod Untold
 pub mod Cloning
 pub mod Leaving
 pub mod Restarting

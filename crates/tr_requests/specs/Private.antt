@@ -1,26 +1,16 @@
 -- What private functions answer: no public contract cites these.
-use Rattle.std.specs.Prelude.{Bool, List, None, Option, Some, [], filter, if◌then◌else◌, is_some, not, pos, ℕ, ◌&&◌, ◌==◌, ◌∷◌}
-use Rattle.tr_model.specs.Ends.{pass_on, remove_thread, word_of_end}
+use Rattle.std.specs.Prelude.{Bool, None, Option, Some, if◌then◌else◌, not, pos, ℕ, ◌&&◌, ◌==◌}
 use Rattle.tr_model.specs.Execs.{break_others, trap_new}
 use Rattle.tr_model.specs.Moves.{Work, alter, enqueue, enter}
 use Rattle.tr_model.specs.Restarts.{inject, resume, untrace}
 use Rattle.tr_model.specs.Sends.{info, send}
-use Rattle.tr_model.specs.Choices.{gives_report}
-use Rattle.tr_model.specs.Tables.{Table, thread_of}
 use Rattle.tr_model.specs.Takes.{act_on}
-use Rattle.tr_model.specs.declared.checked.Checked.{Checked}
-use Rattle.tr_model.specs.declared.checked.Checked.TheVariants.{Due, Quiet}
 use Rattle.tr_model.specs.declared.fates.Fate.TheVariants.{Delivered, Flushed, Suppressed}
-use Rattle.tr_model.specs.declared.replies.Reply.TheVariants.{Nothing}
-use Rattle.tr_model.specs.declared.rows.Group.{Group}
 use Rattle.tr_pending.specs.declared.instance.Instance.{Instance}
-use Rattle.tr_tracee.specs.Ends.{execing, leaving}
+use Rattle.tr_tracee.specs.Ends.{execing}
 use Rattle.tr_tracee.specs.Lives.{cont_came, held, is_dead}
-use Rattle.tr_tracee.specs.Threads.{at_thread, is_leader, is_tracee_of, options_of}
-use Rattle.tr_tracee.specs.declared.life.End.{End}
+use Rattle.tr_tracee.specs.Threads.{at_thread, is_tracee_of, options_of}
 use Rattle.tr_tracee.specs.declared.thread.Thread.{Thread}
-use Rattle.tr_wait.specs.Words.{asks_for}
-use Rattle.tr_wait.specs.declared.waits.Which.{Which}
 use Rattle.tr_model.specs.declared.rows.Target.TheVariants as target
 use Rattle.tr_tracee.specs.declared.life.Stop.TheVariants as stop
 
@@ -43,12 +33,6 @@ stop_or_trap former t w = if (options_of t.trace).exec then enter t.id (stop.Exe
 -- the others begin to leave
 abbrev pub wait_for_others : Thread → Work → Work
 wait_for_others t w = alter (at_thread t.id execing) (break_others t.group t.id w)
-
--- Exits
-
--- with option exit in its exit stop, else leaving
-abbrev pub leave_or_stop : Thread → End → Work → Work
-leave_or_stop t e w = if (options_of t.trace).exit then enter t.id (stop.Exit (word_of_end e)) w else alter (at_thread t.id (leaving e)) w
 
 -- Restarts, by the signal that the tracer gives: none for 0
 
@@ -77,23 +61,3 @@ is_to_kill a t = is_tracee_of a t && ((options_of t.trace).exitkill && not (is_d
 -- SIGSTOP, by the kernel
 abbrev pub attach_sends : Thread → Work → Work
 attach_sends t w = send 19 (info (pos 128) 0 (pos 0)) (target.Thread t.id) w
-
--- Waits
-
--- those of these groups that the wait asks for and whose leader is in the table
-abbrev pub led_among : Table → Which → List Group → List Group
-led_among T which gs = filter (λ g. asks_for which g.tgid && is_some (thread_of T g.tgid)) gs
-
--- the first number, if there is one
-abbrev pub first_number : List ℕ → Option ℕ
-first_number [] = None
-first_number (r ∷ rs) = Some r
-
--- due with the first report that is ready; without one nothing is given
-abbrev pub due_report : Option ℕ → Checked
-due_report None = Quiet Nothing
-due_report (Some r) = Due (gives_report r)
-
--- a tracer that knows of a death: the dead thread goes, but a leader's death is then reported to the starter
-abbrev pub consume_death : Thread → Work → Work
-consume_death t w = if is_leader t then pass_on t t.report w else remove_thread t w

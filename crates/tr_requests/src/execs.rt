@@ -18,7 +18,8 @@ use tr_pending::Info;
 use tr_signals::check_script;
 use tr_sigset::Signal;
 use tr_steps::Step;
-use tr_table::{GroupChange, Table, ThreadChange};
+use tr_table::{GroupChange, Table};
+use tr_threads::ThreadChange;
 use tr_tracee::{End, Stop, Thread};
 
 fn send_trap(step: &mut Step, thread: &Thread)

@@ -20,7 +20,8 @@ use tr_pending::{Info, Instance};
 use tr_signals::act_on;
 use tr_sigset::Signal;
 use tr_steps::Step;
-use tr_table::{Table, ThreadChange};
+use tr_table::Table;
+use tr_threads::ThreadChange;
 use tr_tracee::Thread;
 
 fn tracer_of(thread: &Thread) -> u32

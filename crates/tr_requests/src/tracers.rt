@@ -16,8 +16,8 @@ ghost use Rattle.tr_steps.specs.UnderWay.{IsStepOf, Moves, entry};
 ghost use Rattle.tr_requests.specs.Private.{is_to_kill};
 
 use crate::restarts::detach_thread;
-use crate::waits::consume_death;
 use std::alloc::{AllocError, Global};
+use tr_ends::consume_death;
 use tr_model::{Checked, Choice, Fate, Refusal, Reply};
 use tr_sigset::Signal;
 use tr_steps::Step;

@@ -17,7 +17,8 @@ use tr_pending::Info;
 use tr_signals::{change_own, fate_in, show_stop};
 use tr_sigset::Signal;
 use tr_steps::Step;
-use tr_table::{Table, ThreadChange};
+use tr_table::Table;
+use tr_threads::ThreadChange;
 use tr_tracee::{Options, Thread, Trace};
 
 /// Why nobody can attach to a thread: it is traced, not live, or its group is dying.

@@ -1,8 +1,8 @@
 -- Texts that come by way of a page, one after the other.
 use Rattle.std.proofs.Common.{◌≡◌, ◌≤◌, ℕ, List, [], ◌++◌, ◌∙◌, ap, refl, inl, Result, Ok, Err, length, arith}
 use Rattle.tr_status.specs.Writing.{IsFront}
-use Rattle.tr_scenario.specs.declared.faults.ScenarioFault.{ScenarioFault}
-use Rattle.tr_scenario.specs.declared.faults.ScenarioFault.TheVariants.{NoMemory}
+use Rattle.tr_reading.specs.declared.faults.ScenarioFault.{ScenarioFault}
+use Rattle.tr_reading.specs.declared.faults.ScenarioFault.TheVariants.{NoMemory}
 use Rattle.tr_scenario.specs.Printing.{Fills, IsHalt, Prints}
 use Rattle.tr_scenario.proofs.Halts.{front_none, halts_on, left_after, shorter_after}
 

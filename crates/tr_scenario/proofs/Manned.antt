@@ -2,18 +2,18 @@
 use Rattle.std.proofs.Common.{◌≡◌, ℕ, List, [], ◌∷◌, refl, Bool, true, false, not, ◌&&◌, ◌||◌, ◌==◌, nat_le, Option, Some, None, Result, Ok, Err, IfOk, if◌then◌else◌, length, codes, map, arith}
 use Rattle.serde_json.specs.Data.{Data, Items, no_items, item}
 use Rattle.serde_json.specs.Find.{as_array}
-use Rattle.tr_table.specs.Starts.{no_repeat}
+use Rattle.tr_starts.specs.Starts.{no_repeat}
 use Rattle.tr_workers.specs.declared.scripts.Script.{Script}
-use Rattle.tr_scenario.specs.declared.faults.ScenarioFault.{ScenarioFault}
-use Rattle.tr_scenario.specs.declared.faults.ScenarioFault.TheVariants.{BadField}
-use Rattle.tr_scenario.specs.declared.scenarios.Job.{Job}
-use Rattle.tr_scenario.specs.declared.scenarios.Job.TheVariants.{Steps, Workers}
-use Rattle.tr_scenario.specs.declared.scenarios.Scenario.{Scenario}
-use Rattle.tr_scenario.specs.Fields.{◌>>=◌, each, field_at, needed, no_key_but, number_at}
-use Rattle.tr_scenario.specs.Scenarios.{job_key, job_of, repeats_actor, repeats_in_start, start_of, walk}
-use Rattle.tr_scenario.specs.Steps.{count_of, step_of, steps_at}
+use Rattle.tr_reading.specs.declared.faults.ScenarioFault.{ScenarioFault}
+use Rattle.tr_reading.specs.declared.faults.ScenarioFault.TheVariants.{BadField}
+use Rattle.tr_reading.specs.declared.scenarios.Job.{Job}
+use Rattle.tr_reading.specs.declared.scenarios.Job.TheVariants.{Steps, Workers}
+use Rattle.tr_reading.specs.declared.scenarios.Scenario.{Scenario}
+use Rattle.tr_reading.specs.Fields.{◌>>=◌, each, field_at, needed, no_key_but, number_at}
+use Rattle.tr_reading.specs.Scenarios.{job_key, job_of, repeats_actor, repeats_in_start, start_of, walk}
+use Rattle.tr_reading.specs.Steps.{count_of, step_of, steps_at}
 use Rattle.tr_scenario.specs.Threaded.{is_manned}
-use Rattle.tr_scenario.specs.Workers.{worker_of, workers_at}
+use Rattle.tr_reading.specs.Workers.{worker_of, workers_at}
 
 -- What holds of the value that comes of readings in a row
 

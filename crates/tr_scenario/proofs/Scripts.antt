@@ -5,11 +5,11 @@ use Rattle.std.proofs.lemmas.List.{at_drop_more, length-map}
 use Rattle.std.proofs.lemmas.List.Quantifiers.{position-Some}
 use Rattle.std.proofs.lemmas.List.Sums.{fails_before_first}
 use Rattle.std.specs.List.{list_any, position, position_or_len}
-use Rattle.tr_table.specs.Starts.{no_repeat}
+use Rattle.tr_starts.specs.Starts.{no_repeat}
 use Rattle.tr_workers.specs.declared.scripts.Script.{Script}
-use Rattle.tr_scenario.specs.declared.scenarios.Job.{Job}
-use Rattle.tr_scenario.specs.declared.scenarios.Job.TheVariants.{Steps, Workers}
-use Rattle.tr_scenario.specs.declared.steps.Step.{Step}
+use Rattle.tr_reading.specs.declared.scenarios.Job.{Job}
+use Rattle.tr_reading.specs.declared.scenarios.Job.TheVariants.{Steps, Workers}
+use Rattle.tr_reading.specs.declared.steps.Step.{Step}
 use Rattle.tr_scenario.specs.Threaded.{item_of_step, is_manned, script_of, share_of, scripts_of, scripts_of_job, with_step, with_steps}
 use Rattle.tr_scenario.specs.declared.threads.Share.{Share}
 

@@ -5,7 +5,7 @@ use Rattle.tr_model.specs.Runs.{Call}
 use Rattle.tr_kernel.specs.States.{State}
 use Rattle.tr_workers.specs.Scripts.{next}
 use Rattle.tr_workers.specs.declared.scripts.Script.{Script}
-use Rattle.tr_scenario.specs.declared.faults.ScenarioFault.{ScenarioFault}
+use Rattle.tr_reading.specs.declared.faults.ScenarioFault.{ScenarioFault}
 use Rattle.tr_scenario.specs.declared.rounds.Player.{Player}
 use Rattle.tr_scenario.specs.Kernels.{Makes, so_far}
 use Rattle.tr_scenario.specs.Observers.{Observes, observed}

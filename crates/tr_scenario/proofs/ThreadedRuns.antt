@@ -1,6 +1,6 @@
 -- A run of workers, from its parts.
 use Rattle.std.proofs.Common.{◌≡◌, ◌⊎◌, ℕ, true, List, ◌++◌, ◌∙◌, ap, refl, inl, inr, length, append_assoc, codes, Result, Ok, Err}
-use Rattle.tr_table.specs.declared.starts.Start.{Start}
+use Rattle.tr_starts.specs.declared.starts.Start.{Start}
 use Rattle.tr_kernel.specs.States.{State}
 use Rattle.tr_hub.specs.declared.answers.Asked.{Asked}
 use Rattle.tr_status.specs.Writing.{IsFront}
@@ -9,11 +9,11 @@ use Rattle.tr_workers.specs.declared.runs.RunFault.{RunFault}
 use Rattle.tr_workers.specs.declared.runs.RunFault.TheVariants as run_fault
 use Rattle.tr_workers.specs.declared.scripts.Script.{Script}
 use Rattle.tr_workers.specs.Settled.{IsSettled}
-use Rattle.tr_scenario.specs.declared.faults.ScenarioFault.{ScenarioFault}
-use Rattle.tr_scenario.specs.declared.faults.ScenarioFault.TheVariants.{NoMemory, Unsettled}
-use Rattle.tr_scenario.specs.declared.scenarios.Scenario.{Scenario}
+use Rattle.tr_reading.specs.declared.faults.ScenarioFault.{ScenarioFault}
+use Rattle.tr_reading.specs.declared.faults.ScenarioFault.TheVariants.{NoMemory, Unsettled}
+use Rattle.tr_reading.specs.declared.scenarios.Scenario.{Scenario}
 use Rattle.tr_scenario.specs.Printing.{IsHalt, Prints}
-use Rattle.tr_scenario.specs.Scenarios.{scenario_of}
+use Rattle.tr_reading.specs.Scenarios.{scenario_of}
 use Rattle.tr_scenario.specs.Sources.{Came, IsSound, Shown}
 use Rattle.tr_scenario.specs.Threaded.{IsRun, PrintsRun, RunsThreaded, RunsWorkers, fault_of, scripts_of_job, workers_text}
 use Rattle.tr_scenario.proofs.Halts.{halts_after, halts_in_front}

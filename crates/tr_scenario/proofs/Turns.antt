@@ -19,8 +19,8 @@ use Rattle.tr_scenario.specs.declared.rounds.Player.{Player}
 use Rattle.tr_scenario.specs.Kernels.{Answers, Makes, lacks_memory, so_far}
 use Rattle.tr_scenario.specs.Private.{AreLow, IsLow}
 use Rattle.tr_status.specs.Writing.{IsFront}
-use Rattle.tr_scenario.specs.declared.faults.ScenarioFault.{ScenarioFault}
-use Rattle.tr_scenario.specs.declared.faults.ScenarioFault.TheVariants as fault
+use Rattle.tr_reading.specs.declared.faults.ScenarioFault.{ScenarioFault}
+use Rattle.tr_reading.specs.declared.faults.ScenarioFault.TheVariants as fault
 use Rattle.tr_scenario.specs.Printing.{IsHalt}
 use Rattle.tr_scenario.specs.Rounds.{Played, all_rounds, most_turns, player_after, player_lines, player_of, round, rounds, rounds_text, tallied, turn, turn_with}
 use Rattle.tr_scenario.specs.RunTexts.{call_of, calls_text, state_after}

@@ -1,9 +1,4 @@
-pub mod Events
-pub mod Faults
-pub mod Fields
-pub mod Groups
 pub mod Kernels
-pub mod Kinds
 pub mod Lines
 pub mod Observers
 pub mod Printing
@@ -11,11 +6,8 @@ pub mod Private
 pub mod Replies
 pub mod Rounds
 pub mod RunTexts
-pub mod Scenarios
 pub mod Serial
 pub mod Sources
-pub mod Steps
 pub mod Threaded
 pub mod Told
-pub mod Workers
 pub mod Writers

@@ -1,7 +1,7 @@
 -- A run of workers: those of a scenario, or one for each actor of its steps, and the text of what they leave.
 use Rattle.std.specs.Prelude.{◌≡◌, ◌⊎◌, ℕ, ◌<◌, ◌≤◌, ◌==◌, Bool, true, ◌&&◌, nat_le, List, [], ◌∷◌, ◌++◌, codes, length, map, sum_by, if◌then◌else◌, Result, Ok, Err}
-use Rattle.tr_table.specs.declared.starts.Start.{Start}
-use Rattle.tr_table.specs.Starts.{no_repeat, table_of}
+use Rattle.tr_starts.specs.declared.starts.Start.{Start}
+use Rattle.tr_starts.specs.Starts.{no_repeat, table_of}
 use Rattle.tr_kernel.specs.States.{State}
 use Rattle.tr_hub.specs.declared.answers.Asked.{Asked}
 use Rattle.tr_hub.specs.Kept.{IsKept}
@@ -16,12 +16,12 @@ use Rattle.tr_workers.specs.declared.runs.RunFault.{RunFault}
 use Rattle.tr_workers.specs.declared.runs.RunFault.TheVariants as run_fault
 use Rattle.tr_workers.specs.Runs.{AreDone}
 use Rattle.tr_workers.specs.Settled.{IsSettled}
-use Rattle.tr_scenario.specs.declared.faults.ScenarioFault.{ScenarioFault}
-use Rattle.tr_scenario.specs.declared.faults.ScenarioFault.TheVariants.{BadStart, NoMemory, Repeated, TooLarge, Unsettled}
-use Rattle.tr_scenario.specs.declared.scenarios.Job.{Job}
-use Rattle.tr_scenario.specs.declared.scenarios.Job.TheVariants.{Steps, Workers}
-use Rattle.tr_scenario.specs.declared.scenarios.Scenario.{Scenario}
-use Rattle.tr_scenario.specs.declared.steps.Step.{Step}
+use Rattle.tr_reading.specs.declared.faults.ScenarioFault.{ScenarioFault}
+use Rattle.tr_reading.specs.declared.faults.ScenarioFault.TheVariants.{BadStart, NoMemory, Repeated, TooLarge, Unsettled}
+use Rattle.tr_reading.specs.declared.scenarios.Job.{Job}
+use Rattle.tr_reading.specs.declared.scenarios.Job.TheVariants.{Steps, Workers}
+use Rattle.tr_reading.specs.declared.scenarios.Scenario.{Scenario}
+use Rattle.tr_reading.specs.declared.steps.Step.{Step}
 use Rattle.tr_scenario.specs.declared.threads.Share.{Share}
 use Rattle.tr_scenario.specs.Kernels.{so_far}
 use Rattle.tr_scenario.specs.Lines.{worker_line}

@@ -1,7 +1,7 @@
 ghost use Rattle.std.specs.Prelude.{◌≡◌, ◌∷◌, ◌+◌, ◌-◌, ◌^◌, ℕ, [], IfErr, IfOk, OnOk, replicate};
 ghost use Rattle.tr_model.specs.Runs.{Call};
 ghost use Rattle.tr_model.specs.Runs as runs;
-ghost use Rattle.tr_scenario.specs.declared.faults.ScenarioFault.TheVariants.{NoMemory};
+ghost use Rattle.tr_reading.specs.declared.faults.ScenarioFault.TheVariants.{NoMemory};
 ghost use Rattle.tr_scenario.specs.Kernels.{Answers, Makes, so_far};
 ghost use Rattle.tr_scenario.specs.Observers.{Observes};
 ghost use Rattle.tr_scenario.specs.Private.{AreLow, IsLow};
@@ -9,13 +9,11 @@ ghost use Rattle.tr_scenario.specs.Rounds.{all_rounds, round, rounds, turn};
 ghost use Rattle.tr_scenario.specs.RunTexts.{call_of, calls};
 ghost use Rattle.tr_scenario.specs.Serial.{job_calls};
 
-use crate::faults::ScenarioFault;
 use crate::rounds::{MOST_TURNS, Player, are_at_end, players_of};
-use crate::scenarios::Job;
-use crate::steps::Step;
 use std::alloc::Global;
 use tr_kernel::{Answer, Kernel};
 use tr_model::Event;
+use tr_reading::{Job, ScenarioFault, Step};
 use tr_workers::Script;
 
 /// What takes note of the calls of a run, one after the other.

@@ -7,13 +7,13 @@ ghost use Rattle.tr_scenario.specs.Private.{AreLow, IsLow};
 ghost use Rattle.tr_scenario.specs.Rounds.{all_rounds, final_tally, player_lines, player_of, round, rounds, rounds_text, turn};
 ghost use Rattle.tr_scenario.specs.RunTexts.{calls_text};
 
-use crate::faults::ScenarioFault;
 use crate::lines::push_worker;
 use crate::pages::Page;
 use crate::runs::fill_call;
 use crate::telling::Telling;
 use std::alloc::{AllocError, Global};
 use tr_kernel::Kernel;
+use tr_reading::ScenarioFault;
 use tr_status::Sink;
 use tr_workers::{Calls, Ended, Script, Tally};
 

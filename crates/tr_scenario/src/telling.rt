@@ -1,15 +1,15 @@
 ghost use Rattle.std.specs.Prelude.{◌≡◌, ◌∷◌, ◌++◌, [], IfErr, IfOk, List, OnOk, ℕ};
 ghost use Rattle.tr_model.specs.Runs.{Call};
 ghost use Rattle.tr_model.specs.Runs as runs;
-ghost use Rattle.tr_scenario.specs.declared.faults.ScenarioFault.TheVariants.{NoMemory};
+ghost use Rattle.tr_reading.specs.declared.faults.ScenarioFault.TheVariants.{NoMemory};
 ghost use Rattle.tr_scenario.specs.Kernels.{Answers, Makes, so_far};
 ghost use Rattle.tr_scenario.specs.RunTexts.{call_of};
 
-use crate::faults::ScenarioFault;
 use crate::pages::Page;
 use crate::runs::make_call;
 use tr_kernel::{Answer, Kernel};
 use tr_model::Event;
+use tr_reading::ScenarioFault;
 
 /// What a run tells of its calls.
 pub trait Telling {

@@ -22,10 +22,10 @@ use Rattle.tr_model.specs.Takes.{choices, choices_from, choices_in, goes_before,
 use Rattle.tr_model.proofs.Among.{Among, filter_among}
 use Rattle.tr_model.proofs.Compared.{numbered_among}
 use Rattle.tr_model.proofs.Order.{numbered-append}
-use Rattle.tr_table.specs.Changes.{queue_in}
-use Rattle.tr_table.specs.Choices.{waiting_in}
-use Rattle.tr_table.proofs.Keys.{same_is}
-use Rattle.tr_table.proofs.Standing.{instance_waiting}
+use Rattle.tr_queues.specs.Changes.{queue_in}
+use Rattle.tr_queues.specs.Choices.{waiting_in}
+use Rattle.tr_queues.proofs.Keys.{same_is}
+use Rattle.tr_queues.proofs.Standing.{instance_waiting}
 
 -- Where a number waits
 

@@ -14,7 +14,7 @@ use Rattle.tr_model.specs.Compare.{Permits}
 use Rattle.tr_model.specs.Tables.{Table, thread_of}
 use Rattle.tr_model.specs.Takes.{choices, take, take_numbered, with_number}
 use Rattle.tr_model.proofs.Among.{some_found}
-use Rattle.tr_table.specs.Choices.{waiting_in}
+use Rattle.tr_queues.specs.Choices.{waiting_in}
 use Rattle.tr_model.specs.declared.replies.Reply.{Reply}
 use Rattle.tr_model.specs.GroupStops.{complete_group_stops}
 use Rattle.tr_model.specs.Steps.{Outcome, number, takes}

@@ -15,7 +15,7 @@ use Rattle.tr_model.specs.Steps.{number, takes}
 use Rattle.tr_model.specs.Preferred.{best_for, check, quiet_or, refused_or, take_any_choice, taking_by}
 use Rattle.tr_model.specs.Tables.{Table, group_of, members, thread_of}
 use Rattle.tr_model.specs.Takes.{can_take}
-use Rattle.tr_table.proofs.Reports.{any_by_find}
+use Rattle.tr_table.proofs.Asked.{any_by_find}
 use Rattle.tr_signals.proofs.Taking.{IsDue, due_with}
 
 -- What is answered, by the first thread that can take something

@@ -11,8 +11,8 @@ use Rattle.tr_model.specs.Preferred.{quiet_or, refused_or}
 use Rattle.tr_model.specs.Steps.{Outcome}
 use Rattle.tr_model.specs.Choices.{no_choice}
 use Rattle.tr_model.specs.Tables.{Table}
-use Rattle.tr_table.specs.declared.thread_changes.ThreadChange.{ThreadChange}
-use Rattle.tr_table.specs.Changes.{thread_changed_by}
+use Rattle.tr_threads.specs.declared.thread_changes.ThreadChange.{ThreadChange}
+use Rattle.tr_threads.specs.Changes.{thread_changed_by}
 
 -- what a check answers of one that is never quiet
 abbrev pub script_checked : Table → ℕ → Result Checked Refusal

@@ -13,9 +13,10 @@ use crate::scripts::script;
 use std::alloc::AllocError;
 use tr_group::Action;
 use tr_model::{Checked, Choice, Refusal, Reply};
+use tr_queues::Flush;
 use tr_sigset::Signal;
 use tr_steps::Step;
-use tr_table::{Flush, GroupChange, Table};
+use tr_table::{GroupChange, Table};
 use tr_tracee::Thread;
 
 /// No action of KILL and STOP can be set.

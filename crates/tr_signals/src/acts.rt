@@ -11,7 +11,7 @@ use tr_group::Action;
 use tr_model::Did;
 use tr_sigset::{Base, Signal};
 use tr_steps::Step;
-use tr_table::ThreadChange;
+use tr_threads::ThreadChange;
 use tr_tracee::{End, Thread};
 
 /// What an action makes of a signal.

@@ -41,7 +41,7 @@ pub fn admits_take_any(table: &Table, tgid: u32, tid: u32, n: u64) -> bool
 }
 
 /// What a take of the pending instance of a number by a thread tells.
-#[tactic(auto, using(tr_table::proofs::Standing::instance_waiting))]
+#[tactic(auto, using(tr_queues::proofs::Standing::instance_waiting))]
 pub fn took_reply(table: &Table, tid: u32, n: u64) -> Reply
     ensures { result
         ≡ took_reply table.now.table (thread_of table.now.table tid)

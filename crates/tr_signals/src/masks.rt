@@ -12,7 +12,8 @@ use std::alloc::AllocError;
 use tr_model::{Checked, Refusal, Reply};
 use tr_sigset::SigSet;
 use tr_steps::Step;
-use tr_table::{Table, ThreadChange};
+use tr_table::Table;
+use tr_threads::ThreadChange;
 
 /// Whether a thread's setting of its mask is refused or due. ESRCH comes where there is no such thread, then NotRunning
 /// and Busy as for each operation of a thread's own.

@@ -10,7 +10,8 @@ use crate::takes::can_take;
 use std::alloc::AllocError;
 use tr_model::{Checked, Choice, Refusal, Reply};
 use tr_steps::Step;
-use tr_table::{Table, ThreadChange};
+use tr_table::Table;
+use tr_threads::ThreadChange;
 use tr_tracee::Thread;
 
 /// Why a thread can't do an operation of its own: it doesn't run, or has a mark to serve or a signal to take first.

@@ -17,7 +17,8 @@ use std::alloc::AllocError;
 use tr_model::{Checked, Choice, Refusal, Reply};
 use tr_sigset::Signal;
 use tr_steps::Step;
-use tr_table::{Table, ThreadChange};
+use tr_table::Table;
+use tr_threads::ThreadChange;
 use tr_tracee::{Stop, Thread};
 use tr_wait::StopSig;
 

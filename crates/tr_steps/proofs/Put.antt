@@ -11,7 +11,8 @@ use Rattle.tr_model.specs.Moves.{changed, ended_by_change, ended_hold}
 use Rattle.tr_model.specs.Tables.{Table, thread_in, thread_of}
 use Rattle.tr_model.proofs.Calm.{listening_holds, restarted_holds}
 use Rattle.tr_model.proofs.Kept.{itself}
-use Rattle.tr_table.specs.Held.{bool_to_nat, held_count}
+use Rattle.tr_index.specs.Counts.{bool_to_nat}
+use Rattle.tr_threads.specs.Held.{held_count}
 
 pub helds_put : (id : ℕ) (f : Thread → Thread) (ts : List Thread) (t : Thread) → thread_in ts id ≡ Some t → held_count (changed id f ts) + bool_to_nat (is_some (held t.life)) ≡ held_count ts + bool_to_nat (is_some (held (f t).life))
 helds_put id f [] t e = absurd (none-some t e)

@@ -10,7 +10,7 @@ use Rattle.tr_tracee.specs.Stops.{entered_as, may_enter, reported}
 use Rattle.tr_tracee.specs.Threads.{is_leader}
 use Rattle.tr_model.specs.Moves.{begin, dropped, enter, enter_if_allowed, entered_now, on_thread, raise, raise_with, report_dead, report_death, retargeted, take_place, taking_place, with_leaders_row}
 use Rattle.tr_model.specs.Tables.{Table, thread_of}
-use Rattle.tr_table.specs.Held.{held_count}
+use Rattle.tr_threads.specs.Held.{held_count}
 use Rattle.tr_steps.proofs.Helds.{helds_changed, helds_dropped, helds_in_place}
 
 pub record Slight (T U : Table) : Type 0 where

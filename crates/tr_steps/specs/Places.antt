@@ -1,7 +1,7 @@
 -- How a step is seen, and the places that it has reserved.
 use Rattle.std.specs.Prelude.{ℕ, ◌+◌, ◌≤◌, ◌<◌, ◌^◌, length, vec_len, vec_capacity}
 use Rattle.tr_model.specs.Tables.{Table}
-use Rattle.tr_table.specs.Held.{held_count}
+use Rattle.tr_threads.specs.Held.{held_count}
 use Rattle.tr_steps.specs.UnderWay.{UnderWay}
 use Rattle.tr_steps.specs.declared.steps.Step.TheInside.{Inside}
 

@@ -12,16 +12,20 @@ ghost use Rattle.tr_tracee.specs.Ends.{begun_to_leave, begun_to_leave_by_exec};
 ghost use Rattle.tr_tracee.specs.Lives.{held};
 ghost use Rattle.tr_tracee.specs.Marks.{marked};
 ghost use Rattle.tr_tracee.specs.Threads.{at_group, at_thread};
-ghost use Rattle.tr_table.specs.Changes.{continued_by, flushes, group_changed_by, keeps_held, thread_changed_by};
-ghost use Rattle.tr_table.specs.Held.{bool_to_nat};
+ghost use Rattle.tr_threads.specs.Changes.{continued_by, thread_changed_by};
+ghost use Rattle.tr_queues.specs.Changes.{flushes};
+ghost use Rattle.tr_table.specs.Changes.{group_changed_by, keeps_held};
+ghost use Rattle.tr_index.specs.Counts.{bool_to_nat};
 ghost use Rattle.tr_steps.specs.UnderWay.{Moves};
 
 use crate::steps::Step;
 use std::alloc::AllocError;
 use tr_model::{Ending, Fate, Raise, Target};
 use tr_pending::{Info, Instance};
+use tr_queues::Flush;
 use tr_sigset::Signal;
-use tr_table::{Flush, GroupChange, ThreadChange};
+use tr_table::GroupChange;
+use tr_threads::ThreadChange;
 use tr_tracee::{End, Stop, Thread};
 use tr_wait::Status;
 

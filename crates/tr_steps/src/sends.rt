@@ -10,8 +10,8 @@ use crate::steps::Step;
 use tr_group::Action;
 use tr_model::{Fate, Target};
 use tr_pending::Info;
+use tr_queues::Flush;
 use tr_sigset::Signal;
-use tr_table::Flush;
 
 impl Step {
     // First: KILL is delivered at once, whichever thread it aims at; a group whose threads are all dead flushes it.

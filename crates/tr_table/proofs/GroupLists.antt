@@ -10,28 +10,13 @@ use Rattle.tr_model.specs.Journals.{occurs}
 use Rattle.tr_model.specs.Moves.{group_changed, only_group}
 use Rattle.tr_model.specs.Tables.{group_in}
 use Rattle.tr_model.proofs.Costs.{filter-le-length}
+use Rattle.tr_index.specs.Counts.{bool_to_nat}
+use Rattle.tr_threads.proofs.Counting.{counted_gone, counted_written}
+use Rattle.tr_threads.proofs.ThreadLists.{new_at}
 use Rattle.tr_table.specs.Changes.{group_changed_by}
-use Rattle.tr_table.specs.Held.{bool_to_nat}
 use Rattle.tr_table.specs.Private.{IsGroups, tgids_of}
 use Rattle.tr_table.specs.declared.groups.GroupChange.{GroupChange}
 use Rattle.tr_table.specs.declared.groups.GroupChange.TheVariants as change
-use Rattle.tr_table.proofs.Counting.{counted_gone, counted_written}
-
--- numbers
-
-pub new_at : (ns : List ℕ) (i d : ℕ) → i < length ns → ((n : ℕ) → occurs n ns ≤ 1) → list_any (λ n. n == get_or ns i d) (take i ns) ≡ false
-new_at [] i d h once = absurd (omega (arith, h))
-new_at (n ∷ ns) zero d h once = refl
-new_at (n ∷ ns) (suc i) d h once = go (n == get_or ns i d) refl (new_at ns i d (omega (arith, h)) (λ k. omega (arith, once k)))
-  where
-    there : (ms : List ℕ) (j : ℕ) → j < length ms → 1 ≤ occurs (get_or ms j d) ms
-    there [] j k = absurd (omega (arith, k))
-    there (m ∷ ms) zero k = rw (eq-eqb m m refl) (omega arith)
-    there (m ∷ ms) (suc j) k = omega (arith, there ms j (omega (arith, k)))
-
-    go : (b : Bool) → (n == get_or ns i d) ≡ b → list_any (λ m. m == get_or ns i d) (take i ns) ≡ false → (b || list_any (λ m. m == get_or ns i d) (take i ns)) ≡ false
-    go true e r = let x : (if true then 1 else 0) + occurs (get_or ns i d) ns ≤ 1 = (rw e at (once (get_or ns i d))) in absurd (omega (arith, x, there ns i (omega (arith, h))))
-    go false e r = r
 
 pub new_id_at : (xs : List Group) (i : ℕ) (d : Group) → i < length xs → ((n : ℕ) → occurs n (tgids_of xs) ≤ 1) → list_any (λ n. n == (get_or xs i d).tgid) (tgids_of (take i xs)) ≡ false
 new_id_at xs i d h once =

@@ -11,7 +11,7 @@ use Rattle.tr_tracee.specs.Stops.{entered_as, may_enter, reported}
 use Rattle.tr_tracee.specs.Threads.{is_leader, tracer_of}
 use Rattle.tr_model.specs.Moves.{Work, changed, dropped, enter, enter_if_allowed, entered_now, in_leaders_row, on_thread, raise, raise_with, report_dead, report_death, retargeted, take_place, taking_place, with_leaders_row}
 use Rattle.tr_model.specs.Tables.{Table, thread_of}
-use Rattle.tr_table.specs.Private.{IsPlace}
+use Rattle.tr_threads.specs.Kept.{IsPlace}
 
 -- Nothing happens
 

@@ -2,21 +2,14 @@
 use Rattle.std.proofs.Common.{◌+◌, ◌≤◌, ℕ, List, [], ◌∷◌, ◌++◌, true, false, if◌then◌else◌, arith}
 use Rattle.tr_model.specs.declared.rows.Target.{Target}
 use Rattle.tr_model.specs.declared.rows.Waiting.{Waiting}
-use Rattle.tr_model.specs.Journals.{AllUpTo, IsSorted}
-use Rattle.tr_table.specs.Queues.{AllBelow, is_one, without_one}
-use Rattle.tr_model.proofs.Sorted.{above_more}
+use Rattle.tr_model.specs.Journals.{AllUpTo}
+use Rattle.tr_queues.specs.Queues.{AllBelow, is_one, without_one}
 
 -- without the first of one signal
 
 pub up_to_without : (t : Target) (s n : ℕ) (qs : List Waiting) → AllUpTo n qs → AllUpTo n (without_one t s qs)
 up_to_without t s n [] h = tt
 up_to_without t s n (q ∷ qs) h = elim (is_one t s q) as (λ b. AllUpTo n (if b then qs else q ∷ without_one t s qs)) [ true ↦ h.1 | false ↦ (h.0, up_to_without t s n qs h.1) ]
-
--- one more, above all that wait
-
-pub sorted_last : (qs : List Waiting) (q : Waiting) → IsSorted qs → AllBelow q.instance.n qs → IsSorted (qs ++ q ∷ [])
-sorted_last [] q h k = (tt, tt)
-sorted_last (x ∷ qs) q h k = (above_more x.instance.n qs q h.0 k.0, sorted_last qs q h.1 k.1)
 
 pub up_to_last : (n : ℕ) (qs : List Waiting) (q : Waiting) → AllUpTo n qs → q.instance.n ≤ n → AllUpTo n (qs ++ q ∷ [])
 up_to_last n [] q h k = (k, tt)

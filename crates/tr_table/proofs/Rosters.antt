@@ -1,30 +1,21 @@
 -- No two threads of a table get one id, and no group more than 64 threads.
-use Rattle.std.proofs.Common.{◌≡◌, ◌==◌, ◌&&◌, ◌+◌, ◌<◌, ◌≤◌, ◌∙◌, ◌⊎◌, inl, inr, ℕ, suc, zero, List, [], ◌∷◌, ◌++◌, Bool, true, false, if◌then◌else◌, Some, None, Result, Ok, Err, filter, get_or, length, map, set, cond, arith, refl, sym, ap, subst}
+use Rattle.std.proofs.Common.{◌≡◌, ◌==◌, ◌&&◌, ◌+◌, ◌<◌, ◌≤◌, ◌∙◌, ◌⊎◌, inl, inr, ℕ, suc, zero, List, [], ◌∷◌, ◌++◌, Bool, true, false, if◌then◌else◌, Some, None, Result, Ok, Err, filter, get_or, length, map, set, arith, refl, sym, ap, subst}
 use Rattle.std.specs.Prelude.{OnErr, OnOk}
 use Rattle.std.proofs.lemmas.Bool.{and_parts, cases_eq, eq-eqb, eqb-true, ne_eqb}
 use Rattle.tr_tracee.specs.declared.thread.Thread.{Thread}
 use Rattle.tr_tracee.specs.Lives.{is_dead}
-use Rattle.tr_tracee.specs.Threads.{in_group}
+use Rattle.tr_tracee.specs.Threads.{in_group, at_group}
 use Rattle.tr_model.specs.Moves.{changed, dropped, in_leaders_row, renamed}
 use Rattle.tr_model.specs.Tables.{thread_in}
 use Rattle.tr_model.proofs.Between.{ids_total}
 use Rattle.tr_model.proofs.Ids.{has_id, none_has}
 use Rattle.tr_model.proofs.Measures.{total, total-append, total_dropped, total_filter, total_less, total_same}
 use Rattle.tr_model.proofs.OneFate.{one}
+use Rattle.tr_threads.proofs.Rosters.{is_of, in_all, Same}
+use Rattle.tr_threads.specs.Changes.{thread_changed_by}
+use Rattle.tr_threads.specs.declared.thread_changes.ThreadChange.{ThreadChange}
+use Rattle.tr_threads.proofs.Keeping.{same_changed}
 use Rattle.tr_table.specs.Order.{IsRoster}
-
--- the threads of an id and of a group, as sums
-
-abbrev pub is_of : ℕ → Thread → ℕ
-is_of g t = one (t.group == g)
-
-pub in_all : (g : ℕ) (ts : List Thread) → total (is_of g) ts ≡ length (filter (in_group g) ts)
-in_all g [] = refl
-in_all g (t ∷ ts) = go (t.group == g) (in_all g ts)
-  where
-    go : (b : Bool) → total (is_of g) ts ≡ length (filter (in_group g) ts) → one b + total (is_of g) ts ≡ length (cond b (t ∷ filter (in_group g) ts) (filter (in_group g) ts))
-    go true h = omega (arith, h)
-    go false h = omega (arith, h)
 
 by_totals : (ts : List Thread) → ((n : ℕ) → total (has_id n) ts ≤ 1) → ((g : ℕ) → total (is_of g) ts ≤ 64) → IsRoster ts
 by_totals ts d f = record { distinct = λ n. omega (arith, ids_total n ts, d n); few = λ g. omega (arith, in_all g ts, f g) }
@@ -34,12 +25,6 @@ one_at_most n ts h = omega (arith, ids_total n ts, h.distinct n)
 
 few_at_most : (g : ℕ) (ts : List Thread) → IsRoster ts → total (is_of g) ts ≤ 64
 few_at_most g ts h = omega (arith, in_all g ts, h.few g)
-
--- a change of a record that keeps id and group
-
-pub record Same (t u : Thread) : Type 0 where
-  pub id : u.id ≡ t.id
-  pub group : u.group ≡ t.group
 
 same_id : (n : ℕ) (t u : Thread) → Same t u → has_id n u ≡ has_id n t
 same_id n t u s = ap (λ (i : ℕ). one (i == n)) s.id
@@ -180,3 +165,8 @@ module _ (t : Thread) where
 pub roster_grown : {A B : Type 0} (r : Result A B) (t : Thread) (ts us : List Thread) → OnOk r (us ≡ ts ++ t ∷ []) → OnErr r (us ≡ ts) → thread_in ts t.id ≡ None → length (filter (in_group t.group) ts) < 64 → IsRoster ts → IsRoster us
 roster_grown (Ok a) t ts us e f new room h = subst IsRoster (sym e) (roster_added t ts new room h)
 roster_grown (Err b) t ts us e f new room h = subst IsRoster (sym f) h
+
+-- a change of the threads of a group
+
+pub roster_of_members : (g : ℕ) (c : ThreadChange) (ts : List Thread) → IsRoster ts → IsRoster (map (at_group g (thread_changed_by c)) ts)
+roster_of_members g c ts h = roster_map (at_group g (thread_changed_by c)) (λ t. same_where (t.group == g) t (thread_changed_by c t) (same_changed c t)) ts h

@@ -1,19 +1,17 @@
 -- The words of a group's threads, thread by thread.
-use Rattle.std.proofs.Common.{◌≡◌, ◌<◌, ◌^◌, ◌&&◌, ◌∙◌, Bool, true, false, if◌then◌else◌, ℕ, suc, List, [], ◌∷◌, ◌++◌, drop, length, map, remove, replicate, take, arith, ap, refl}
-use Rattle.std.specs.List.{AllByRecursion, list_any}
-use Rattle.std.proofs.lemmas.List.Elements.{All-append, All-drop, All-take, recursion_from_All}
-use Rattle.tr_sigset.specs.Sets.{has, in_word, word_of}
+use Rattle.std.proofs.Common.{◌≡◌, ◌<◌, ◌^◌, ℕ, suc, List, [], ◌∷◌, ◌++◌, length, map, replicate, arith, ap, refl}
+use Rattle.std.specs.List.{AllByRecursion}
+use Rattle.std.proofs.lemmas.List.Elements.{recursion_from_All}
 use Rattle.tr_sigset.proofs.Members.{in_word-zero}
 use Rattle.tr_tracee.specs.declared.thread.Thread.{Thread}
-use Rattle.tr_tracee.specs.Lives.{is_live}
 use Rattle.tr_model.specs.declared.rows.Target.TheVariants as target
 use Rattle.tr_model.specs.declared.rows.Waiting.{Waiting}
 use Rattle.tr_model.specs.Tables.{ids_of}
-use Rattle.tr_table.specs.Changes.{queue_in}
-use Rattle.tr_table.specs.Queues.{count_own}
-use Rattle.tr_table.specs.Rows.{AreOwn, AreRows, AreWords, IsWord, blocked_word, runnable_word}
-use Rattle.tr_table.proofs.Ids.{any_mapped}
-use Rattle.tr_table.proofs.Owns.{none_own}
+use Rattle.tr_threads.specs.Rows.{AreWords, blocked_word, runnable_word}
+use Rattle.tr_queues.specs.Changes.{queue_in}
+use Rattle.tr_queues.specs.Queues.{count_own}
+use Rattle.tr_table.specs.Rows.{AreOwn, AreRows, IsWord}
+use Rattle.tr_queues.proofs.Owns.{none_own}
 
 pub own_length : (ws : List Waiting) (ns os : List ℕ) → AreOwn ws ns os → length os ≡ length ns
 own_length ws [] [] h = refl
@@ -39,20 +37,3 @@ each_row ws (t ∷ ts) [] h f = absurd h
 
 pub rows_are : (ws : List Waiting) (ts : List Thread) (os : List ℕ) → AreOwn ws (ids_of ts) os → AreWords (map blocked_word ts) → AreRows ws ts os (map blocked_word ts) (map runnable_word ts)
 rows_are ws ts os h f = each_row ws ts os h (recursion_from_All (λ (word : ℕ). word < 2 ^ 64) (map blocked_word ts) f)
-
-pub words_removed : (words : List ℕ) (i : ℕ) → AreWords words → AreWords (remove words i)
-words_removed words i h =
-    let P : ℕ → Type 0 = λ word. word < 2 ^ 64 in
-    All-append P (take i words) (drop (suc i) words) (All-take P i words h) (All-drop P (suc i) words h)
-
--- what some live thread blocks stands in one of the words
-
-blocks : (n : ℕ) (t : Thread) → in_word (blocked_word t) n ≡ (is_live t.life && has t.mask n)
-blocks n t = go (is_live t.life)
-  where
-    go : (b : Bool) → in_word (if b then word_of t.mask else 0) n ≡ (b && has t.mask n)
-    go true = refl
-    go false = in_word-zero n
-
-pub some_block : (n : ℕ) (ts : List Thread) → list_any (λ word. in_word word n) (map blocked_word ts) ≡ list_any (λ t. is_live t.life && has t.mask n) ts
-some_block n ts = any_mapped (λ word. in_word word n) blocked_word ts ∙ ap (λ (p : Thread → Bool). list_any p ts) (λ i t. blocks n t i)

@@ -1,7 +1,6 @@
 -- The threads of a good start: no two have one id, and no group has more than 64.
-use Rattle.std.proofs.Common.{◌≡◌, ◌==◌, ◌&&◌, ◌||◌, ◌+◌, ◌*◌, ◌≤◌, ◌⊎◌, inl, inr, ℕ, List, [], ◌∷◌, ◌++◌, Bool, true, false, not, if◌then◌else◌, length, map, nat_le, length-append, arith, refl, sym, ap, ◌∙◌, true≢false}
-use Rattle.std.proofs.lemmas.Bool.{and_parts, cases_eq, eq-eqb, eqb-true, ne_eqb}
-use Rattle.std.proofs.lemmas.Bool.{leb-true}
+use Rattle.std.proofs.Common.{◌≡◌, ◌==◌, ◌&&◌, ◌+◌, ◌*◌, ◌≤◌, ◌⊎◌, inl, inr, ℕ, List, [], ◌∷◌, ◌++◌, Bool, true, false, not, if◌then◌else◌, length, map, nat_le, length-append, arith, refl, sym, ap, ◌∙◌, true≢false}
+use Rattle.std.proofs.lemmas.Bool.{and_parts, cases_eq, eq-eqb, eqb-true, ne_eqb, leb-true}
 use Rattle.std.proofs.lemmas.Bool.Decides.{nat_tests}
 use Rattle.std.proofs.lemmas.List.{length-map}
 use Rattle.std.specs.Prelude.{IsTrue}
@@ -12,23 +11,14 @@ use Rattle.tr_model.specs.Tables.{ids_of}
 use Rattle.tr_model.proofs.Among.{occurs-append}
 use Rattle.tr_model.proofs.Measures.{total, total-append}
 use Rattle.tr_model.proofs.OneFate.{one}
+use Rattle.tr_index.proofs.Indexing.{none_occurs}
+use Rattle.tr_threads.proofs.Rosters.{in_all, is_of}
+use Rattle.tr_threads.proofs.ThreadLists.{ids_append}
 use Rattle.tr_table.specs.Order.{IsRoster}
 use Rattle.tr_table.specs.Private.{tgids_of}
-use Rattle.tr_table.specs.Starts.{all_started, group_started, ids_started, is_good, is_good_actions, is_good_group, is_good_id, is_good_name, leads, no_repeat, thread_started, threads_started}
-use Rattle.tr_table.specs.declared.starts.GroupStart.{GroupStart}
-use Rattle.tr_table.specs.declared.starts.Start.{Start}
-use Rattle.tr_table.proofs.Rosters.{in_all, is_of}
-use Rattle.tr_table.proofs.ThreadLists.{ids_append}
-
--- ids
-
-pub none_occurs : (n : ℕ) (xs : List ℕ) → list_any (λ y. y == n) xs ≡ false → occurs n xs ≡ 0
-none_occurs n [] e = refl
-none_occurs n (x ∷ xs) e = go (x == n) e (none_occurs n xs)
-  where
-    go : (b : Bool) → (b || list_any (λ y. y == n) xs) ≡ false → (list_any (λ y. y == n) xs ≡ false → occurs n xs ≡ 0) → (if b then 1 else 0) + occurs n xs ≡ 0
-    go true h r = absurd (true≢false h)
-    go false h r = omega (arith, r h)
+use Rattle.tr_starts.specs.Starts.{all_started, group_started, ids_started, is_good, is_good_actions, is_good_group, is_good_id, is_good_name, leads, no_repeat, thread_started, threads_started}
+use Rattle.tr_starts.specs.declared.starts.GroupStart.{GroupStart}
+use Rattle.tr_starts.specs.declared.starts.Start.{Start}
 
 is_false : (b : Bool) → IsTrue (not b) → b ≡ false
 is_false true e = absurd (true≢false (sym e))

@@ -7,7 +7,7 @@ use Rattle.tr_pending.specs.declared.instance.Instance.{Instance}
 use Rattle.tr_model.specs.declared.rows.Target.{Target}
 use Rattle.tr_model.specs.Tables.{same_target}
 use Rattle.std.proofs.lemmas.Bool.{true≢false}
-use Rattle.tr_table.specs.declared.slots.Slot.{Slot}
+use Rattle.tr_queues.specs.declared.slots.Slot.{Slot}
 use Rattle.tr_table.specs.Choices.{goes_first, is_choice, open_in}
 
 -- a slot that is no choice

@@ -17,7 +17,7 @@ use Rattle.tr_table.specs.Settled.{NoneBut, can_complete, has_mark, is_open, is_
 use Rattle.tr_table.specs.declared.unsettled.Unsettled.{Unsettled}
 use Rattle.tr_table.specs.declared.unsettled.Unsettled.TheVariants.{Anywhere, In, Nowhere}
 use Rattle.tr_table.proofs.Rosters.{roster_dropped}
-use Rattle.tr_table.proofs.ThreadLists.{left, others_left}
+use Rattle.tr_threads.proofs.ThreadLists.{left, others_left}
 
 -- where nothing but one group has become another, no other has come to be open
 pub moved : (listed : List ℕ) (g : ℕ) (u : Unsettled) (ts us : List Thread) (xs ys : List Group) → ((n : ℕ) → (g ≡ n → ⊥) → is_open us ys listed n ≡ is_open ts xs listed n) → NoneBut u ts xs listed → NoneBut (touched g u) us ys listed

@@ -1,21 +1,15 @@
 -- What waits with a number, and which instances a thread may take from a queue.
-use Rattle.std.specs.Prelude.{ℕ, ◌==◌, ◌&&◌, List, [], ◌∷◌, Bool, not, Option, Some, None, if◌then◌else◌}
+use Rattle.std.specs.Prelude.{ℕ, ◌==◌, ◌&&◌, List, Bool, not}
 use Rattle.std.specs.List.{list_all}
 use Rattle.tr_sigset.specs.declared.sets.SigSet.{SigSet}
 use Rattle.tr_sigset.specs.Sets.{has}
 use Rattle.tr_pending.specs.declared.instance.Instance.{Instance}
 use Rattle.tr_model.specs.declared.rows.Target.{Target}
-use Rattle.tr_model.specs.declared.rows.Waiting.{Waiting}
 use Rattle.tr_model.specs.Tables.{same_target}
 use Rattle.tr_model.specs.Takes.{goes_before, unblocked}
-use Rattle.tr_table.specs.declared.slots.Slot.{Slot}
-use Rattle.tr_table.specs.Changes.{queue_in}
-use Rattle.tr_table.specs.Slots.{standing}
-
--- the first that waits with the number
-abbrev pub waiting_in : List Waiting → ℕ → Option Waiting
-waiting_in [] n = None
-waiting_in (q ∷ qs) n = if q.instance.n == n then Some q else waiting_in qs n
+use Rattle.tr_queues.specs.declared.slots.Slot.{Slot}
+use Rattle.tr_queues.specs.Changes.{queue_in}
+use Rattle.tr_queues.specs.Slots.{standing}
 
 -- its instance still waits for the target, and isn't blocked
 abbrev pub is_open : Target → SigSet → Slot → Bool

@@ -3,8 +3,8 @@ use Rattle.std.specs.Prelude.{ℕ, ◌≤◌, List, filter, length}
 use Rattle.tr_tracee.specs.declared.thread.Thread.{Thread}
 use Rattle.tr_tracee.specs.Threads.{in_group}
 use Rattle.tr_model.specs.declared.rows.Group.{Group}
-use Rattle.tr_table.specs.declared.pending.Pending.{Pending}
-use Rattle.tr_table.specs.Slots.{IsPending, standing}
+use Rattle.tr_queues.specs.declared.pending.Pending.{Pending}
+use Rattle.tr_queues.specs.Slots.{IsPending, standing}
 use Rattle.tr_model.specs.Journals.{AllUpTo, occurs}
 use Rattle.tr_model.specs.Tables.{ids_of}
 use Rattle.tr_table.specs.declared.unsettled.Unsettled.{Unsettled}

@@ -1,16 +1,15 @@
 -- The words of a group's threads: signal n is bit n - 1.
-use Rattle.std.specs.Prelude.{◌≡◌, ℕ, ◌<◌, ◌-◌, ◌^◌, List, [], ◌∷◌, filter, if◌then◌else◌}
-use Rattle.std.specs.List.{All}
-use Rattle.tr_sigset.specs.Sets.{in_word, word_of}
+use Rattle.std.specs.Prelude.{◌≡◌, ℕ, ◌<◌, ◌^◌, List, [], ◌∷◌, filter}
+use Rattle.tr_sigset.specs.Sets.{in_word}
 use Rattle.tr_pending.specs.declared.instance.Instance.{Instance}
 use Rattle.tr_pending.specs.Waiting.{is_waiting}
 use Rattle.tr_tracee.specs.declared.thread.Thread.{Thread}
-use Rattle.tr_tracee.specs.Lives.{is_live}
-use Rattle.tr_tracee.specs.Threads.{in_group, is_ready_to_take}
+use Rattle.tr_tracee.specs.Threads.{in_group}
 use Rattle.tr_model.specs.declared.rows.Target.TheVariants as target
 use Rattle.tr_model.specs.declared.rows.Waiting.{Waiting}
 use Rattle.tr_model.specs.Tables.{Table}
-use Rattle.tr_table.specs.Changes.{queue_in}
+use Rattle.tr_threads.specs.Rows.{blocked_word, runnable_word}
+use Rattle.tr_queues.specs.Changes.{queue_in}
 
 -- what a contract sees of the rows: a word for each thread, and the word of the shared queue
 pub record RowsView : Type 0 where
@@ -23,18 +22,6 @@ pub record RowsView : Type 0 where
 pub record IsWord (word : ℕ) (queue : List Instance) : Type 0 where
   pub waits : (n : ℕ) → in_word word n ≡ is_waiting n queue
   pub fits : word < 2 ^ 64
-
--- each is a word of 64 bits
-abbrev pub AreWords : List ℕ → Type 0
-AreWords words = All (λ word. word < 2 ^ 64) words
-
--- what a live thread blocks
-abbrev pub blocked_word : Thread → ℕ
-blocked_word t = if is_live t.life then word_of t.mask else 0
-
--- all or none, as the thread may take a signal or not
-abbrev pub runnable_word : Thread → ℕ
-runnable_word t = if is_ready_to_take t then 2 ^ 64 - 1 else 0
 
 -- the words of what waits in the own queues of the threads with these ids
 abbrev pub AreOwn : List Waiting → List ℕ → List ℕ → Type 0

@@ -4,18 +4,20 @@ ghost use Rattle.tr_model.specs.declared.rows.Target.TheVariants as target;
 ghost use Rattle.tr_model.specs.Moves.{changed, ended_by_change, ending_of, group_changed, only_group, with_note, without_instance};
 ghost use Rattle.tr_model.specs.Tables.{Table};
 ghost use Rattle.tr_tracee.specs.Threads.{at_group, at_thread};
-ghost use Rattle.tr_table.specs.Changes.{group_changed_by, is_flushed, thread_changed_by};
-ghost use Rattle.tr_table.specs.Held.{held_count};
-ghost use Rattle.tr_table.specs.Queues.{AllBelow};
+ghost use Rattle.tr_threads.specs.Changes.{thread_changed_by};
+ghost use Rattle.tr_queues.specs.Changes.{is_flushed};
+ghost use Rattle.tr_table.specs.Changes.{group_changed_by};
+ghost use Rattle.tr_threads.specs.Held.{held_count};
+ghost use Rattle.tr_queues.specs.Queues.{AllBelow};
 
 use crate::groups::GroupChange;
-use crate::picked::{Flush, Picked};
 use crate::table::Table;
-use crate::thread_changes::ThreadChange;
 use std::alloc::AllocError;
 use tr_model::{Ending, Fate, Target, Waiting};
 use tr_pending::{Info, Instance};
+use tr_queues::{Flush, Picked};
 use tr_sigset::Signal;
+use tr_threads::ThreadChange;
 use tr_wait::Status;
 
 // What happens to a table, one list at a time. Only `reserve` takes memory.

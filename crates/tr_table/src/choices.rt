@@ -6,11 +6,10 @@ ghost use Rattle.tr_model.specs.Takes.{choices_in, goes_before, unblocked};
 ghost use Rattle.tr_table.specs.Choices.{goes_first, is_choice, is_open, open_in};
 
 use crate::free_ids::is_new;
-use crate::picked::same_target;
-use crate::slots::Slot;
 use crate::table::Table;
 use tr_model::Target;
 use tr_pending::Instance;
+use tr_queues::{Slot, same_target};
 use tr_sigset::SigSet;
 
 // What the model leaves open, tested at a table. No call here takes memory.

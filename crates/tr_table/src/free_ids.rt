@@ -5,8 +5,8 @@ ghost use Rattle.tr_table.specs.Changes.{ids_table};
 
 use crate::group_list::Groups;
 use crate::table::Table;
-use crate::threads::Threads;
 use tr_model::GREATEST_ID;
+use tr_threads::Threads;
 
 // Which id a new thread gets. No call here takes memory.
 

@@ -7,14 +7,13 @@ ghost use Rattle.tr_model.specs.Tables.{group_in};
 ghost use Rattle.tr_table.specs.Changes.{group_changed_by};
 ghost use Rattle.tr_table.specs.Private.{IsGroupPlace, stopping_in, tgids_of};
 
-use crate::counts::recounted;
 use crate::groups::{GroupChange, count_noted, count_stopping};
-use crate::index::Index;
-use crate::threads::Threads;
 use std::alloc::{AllocError, Global};
 use std::marker::Model;
 use std::slice;
+use tr_index::{Index, recounted};
 use tr_model::Group;
+use tr_threads::Threads;
 use tr_tracee::Report;
 use tr_wait::Status;
 

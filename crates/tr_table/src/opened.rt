@@ -4,20 +4,20 @@ ghost use Rattle.tr_tracee.specs.Threads.{in_group};
 ghost use Rattle.tr_model.specs.Journals.{occurs};
 ghost use Rattle.tr_model.specs.Sends.{set_at};
 ghost use Rattle.tr_model.specs.Tables.{ids_of};
-ghost use Rattle.tr_table.specs.Starts.{all_started, group_started, is_good, name_fits, name_of, table_of, thread_started, threads_started, with_actions};
+ghost use Rattle.tr_starts.specs.Starts.{all_started, group_started, is_good, name_fits, name_of, table_of, thread_started, threads_started, with_actions};
 
 use crate::group_list::Groups;
-use crate::multiset::Multiset;
-use crate::pending::Pending;
-use crate::starts::{GroupStart, Start};
 use crate::table::Table;
-use crate::threads::Threads;
 use crate::unsettled::Unsettled;
 use std::alloc::{AllocError, Global};
 use std::slice;
 use tr_group::{Action, GroupStop};
+use tr_index::Multiset;
 use tr_model::{Group, Name};
+use tr_queues::Pending;
 use tr_sigset::{SigSet, Signal};
+use tr_starts::{GroupStart, Start};
+use tr_threads::Threads;
 use tr_tracee::{Life, Thread};
 
 // The table that a kernel starts with.

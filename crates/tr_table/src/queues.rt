@@ -4,12 +4,13 @@ ghost use Rattle.tr_model.specs.Moves.{ending_of};
 ghost use Rattle.tr_model.specs.Tables.{queue, same_target};
 ghost use Rattle.tr_pending.specs.declared.queue.Put.TheVariants as put;
 ghost use Rattle.tr_pending.specs.Waiting.{first_of, merges};
-ghost use Rattle.tr_table.specs.Queues.{AllBelow, after_put, is_of, without_one};
+ghost use Rattle.tr_queues.specs.Queues.{AllBelow, is_of, without_one};
+ghost use Rattle.tr_table.specs.Queues.{after_put};
 
-use crate::picked::{Picked, note_picked};
 use crate::table::Table;
 use tr_model::{Ending, Target, Waiting};
 use tr_pending::{Instance, Put};
+use tr_queues::{Picked, note_picked};
 use tr_sigset::{SigSet, Signal};
 
 // The queue of one thread or of one group, as `Queue` has it. No call here takes memory: `reserve` does.

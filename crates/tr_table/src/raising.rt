@@ -2,12 +2,12 @@ ghost use Rattle.std.specs.Prelude.{◌≡◌, ◌+◌, ◌<◌, ◌^◌, get_or
 ghost use Rattle.tr_tracee.specs.declared.thread.Thread.{Thread};
 ghost use Rattle.tr_tracee.specs.Threads.{tracer_of};
 ghost use Rattle.tr_model.specs.Moves.{enter, report_death};
-ghost use Rattle.tr_table.specs.Changes.{thread_changed_by};
+ghost use Rattle.tr_threads.specs.Changes.{thread_changed_by};
 ghost use Rattle.tr_table.specs.Moved.{Raises};
 
 use crate::table::Table;
-use crate::thread_changes::ThreadChange;
 use tr_model::Raise;
+use tr_threads::ThreadChange;
 use tr_tracee::{End, Stop};
 use tr_wait::Status;
 

@@ -6,15 +6,15 @@ ghost use Rattle.tr_pending.specs.Waiting.{best_of, is_waiting};
 ghost use Rattle.tr_model.specs.Journals.{IsSorted};
 ghost use Rattle.tr_model.specs.Tables.{action_of, all_dead, end_of, group_of, has_live, has_stop_mark, has_traced, members, others_dead, owner, queue, stop_of};
 ghost use Rattle.tr_table.specs.Changes.{tgids};
-ghost use Rattle.tr_table.specs.Choices.{waiting_in};
+ghost use Rattle.tr_queues.specs.Choices.{waiting_in};
 
 use crate::groups::{action_in, end_in, stop_in};
 use crate::table::Table;
-use crate::threads::owner_of;
 use tr_group::{Action, GroupStop};
 use tr_model::{Target, Waiting};
 use tr_pending::Instance;
 use tr_sigset::{SigSet, Signal};
+use tr_threads::owner_of;
 use tr_tracee::{End, Thread};
 
 // What is read off a table. No call here takes memory.

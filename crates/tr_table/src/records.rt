@@ -5,9 +5,9 @@ ghost use Rattle.tr_model.specs.Tables.{members, thread_of};
 ghost use Rattle.tr_table.specs.Moved.{Renames};
 
 use crate::table::Table;
-use crate::threads::owner_of;
 use std::alloc::AllocError;
 use tr_model::{Group, Target};
+use tr_threads::owner_of;
 use tr_tracee::Thread;
 
 // Records that come, go or are written anew. Only `add` takes memory.

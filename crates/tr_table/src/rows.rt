@@ -1,17 +1,17 @@
 ghost use Rattle.std.specs.Prelude.{◌≡◌, ◌==◌, ◌&&◌, ◌<◌, ◌≤◌, IfSome, filter, is_some, length, replicate};
 ghost use Rattle.tr_tracee.specs.Threads.{in_group};
 ghost use Rattle.tr_model.specs.Tables.{group_of};
-ghost use Rattle.tr_table.specs.Changes.{queue_in};
-ghost use Rattle.tr_table.specs.Queues.{count_own};
+ghost use Rattle.tr_queues.specs.Changes.{queue_in};
+ghost use Rattle.tr_queues.specs.Queues.{count_own};
 ghost use Rattle.tr_table.specs.Rows.{AreOwn, IsRows, IsWord, RowsOf};
-ghost use Rattle.tr_table.specs.Slots.{IsPending, standing};
+ghost use Rattle.tr_queues.specs.Slots.{IsPending, standing};
 
-use crate::pending::Pending;
 use crate::table::Table;
-use crate::threads::Threads;
 use arrayvec::ArrayVec;
 use std::marker::Model;
 use tr_model::Target;
+use tr_queues::Pending;
+use tr_threads::Threads;
 
 /// A word for each thread of a group, in table order, and one for the queue that the group shares: signal n is bit
 /// n - 1. As the scans of `tr_lanes` read them.

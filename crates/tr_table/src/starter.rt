@@ -1,10 +1,9 @@
 ghost use Rattle.std.specs.Prelude.{◌≡◌, filter, is_some};
 ghost use Rattle.std.specs.List.{list_any};
 ghost use Rattle.tr_wait.specs.Words.{asks_for};
-ghost use Rattle.tr_table.specs.Waits.{is_untraced_death};
+ghost use Rattle.tr_threads.specs.Waits.{is_untraced_death};
 
 use crate::table::Table;
-use crate::threads::Threads;
 use crate::tracees::only_asked;
 use tr_model::Group;
 use tr_wait::Which;
@@ -34,13 +33,5 @@ impl Table {
         ensures { result ≡ list_any is_untraced_death self.now.table.threads }
     {
         self.threads.has_untraced_deaths()
-    }
-}
-
-impl Threads {
-    fn has_untraced_deaths(&self) -> bool
-        ensures { result ≡ list_any is_untraced_death self.now }
-    {
-        self.tracing.has_untraced_deaths()
     }
 }

@@ -3,13 +3,13 @@ ghost use Rattle.tr_model.specs.Journals.{DistinctIds};
 ghost use Rattle.tr_model.specs.Tables.{group_in, thread_in};
 
 use crate::group_list::Groups;
-use crate::multiset::Multiset;
-use crate::pending::Pending;
-use crate::threads::Threads;
 use crate::unsettled::Unsettled;
 use std::alloc::{AllocError, Global};
 use std::marker::Model;
+use tr_index::Multiset;
 use tr_model::Group;
+use tr_queues::Pending;
+use tr_threads::Threads;
 use tr_tracee::Thread;
 
 /// The kernel's table: its threads and groups in table order, and all pending instances in order of acceptance.
@@ -28,7 +28,7 @@ pub struct Table {
 
 impl Model for Table {
     ghost use Rattle.tr_table.specs.Order.{IsTable};
-    ghost use Rattle.tr_table.specs.Slots.{standing};
+    ghost use Rattle.tr_queues.specs.Slots.{standing};
     ghost use Rattle.tr_table.specs.View.{View};
 
     ghost Value = { View };

@@ -2,14 +2,14 @@ ghost use Rattle.std.specs.Prelude.{◌≡◌, ℕ, filter, find, option_copied}
 ghost use Rattle.std.specs.List.{list_any};
 ghost use Rattle.tr_wait.specs.Words.{asks_for};
 ghost use Rattle.tr_tracee.specs.Threads.{is_tracee_of};
-ghost use Rattle.tr_model.specs.Tables.{thread_in};
 ghost use Rattle.tr_model.specs.Waits.{asked_tracees};
-ghost use Rattle.tr_table.specs.Tracing.{first_of, if_passes, is_asked, reports};
-ghost use Rattle.tr_table.specs.Waits.{is_report};
+ghost use Rattle.tr_threads.specs.Tracing.{if_passes};
+ghost use Rattle.tr_table.specs.Asked.{is_asked};
+ghost use Rattle.tr_threads.specs.Waits.{is_report};
 
 use crate::table::Table;
-use crate::threads::Threads;
-use tr_tracee::{Report, Thread};
+use tr_threads::with_report;
+use tr_tracee::Thread;
 use tr_wait::Which;
 
 // What a wait of a tracer asks: whom the actor traces, and which of its tracees has a report.
@@ -40,36 +40,6 @@ impl Table {
     }
 }
 
-impl Threads {
-    fn has_tracee(&self, actor: u32) -> bool
-        ensures { result ≡ list_any (is_tracee_of actor) self.now }
-    {
-        self.tracing.has_tracees(actor)
-    }
-
-    /// The thread with the id, where the actor traces it.
-    fn tracee(&self, actor: u32, id: u32) -> Option<&Thread>
-        ensures { option_copied result ≡ if_passes (is_tracee_of actor) (thread_in self.now id) }
-    {
-        let thread = self.find(id)?;
-        if thread.is_tracee_of(actor) {
-            Some(thread)
-        } else {
-            None
-        }
-    }
-
-    /// The first of the actor's tracees that has such a report.
-    fn first_reporting(&self, actor: u32, number: Option<u64>) -> Option<&Thread>
-        ensures { option_copied result ≡ find (reports actor number) self.now }
-    {
-        if !self.tracing.has_reports(actor) {
-            return None;
-        }
-        first_among(self, self.tracing.reporting(), actor, number)
-    }
-}
-
 /// The one id that a wait asks for, `None` where it asks for any.
 pub(crate) fn only_asked(which: Which) -> Option<u32>
     ensures { (n : ℕ) → asks_for which n ≡ is_asked result n }
@@ -79,44 +49,4 @@ pub(crate) fn only_asked(which: Which) -> Option<u32>
         Which::One(0) => None,
         Which::One(id) => Some(id),
     }
-}
-
-fn is_report(report: &Option<Report>, number: Option<u64>) -> bool
-    ensures { result ≡ is_report number report.now }
-{
-    match (report, number) {
-        (Some(report), Some(number)) => report.number == number,
-        (Some(_), None) => true,
-        _ => false,
-    }
-}
-
-/// The thread, where it has such a report.
-fn with_report(thread: Option<&Thread>, number: Option<u64>) -> Option<&Thread>
-    ensures { option_copied result
-        ≡ if_passes (λ t. is_report number t.report) (option_copied thread.entry) }
-{
-    let thread = thread?;
-    if is_report(&thread.report, number) {
-        Some(thread)
-    } else {
-        None
-    }
-}
-
-/// The first of the threads with these ids that has such a report for the actor.
-fn first_among<'a>(
-    threads: &'a Threads,
-    ids: &[u32],
-    actor: u32,
-    number: Option<u64>,
-) -> Option<&'a Thread>
-    ensures { option_copied result ≡ first_of (reports actor number) threads.now ids.now }
-{
-    for id in ids {
-        if let Some(thread) = with_report(threads.tracee(actor, *id), number) {
-            return Some(thread);
-        }
-    }
-    None
 }

@@ -5,10 +5,10 @@ ghost use Rattle.tr_model.specs.Tables.{has_traced};
 ghost use Rattle.tr_table.specs.Settled.{NoStopBut, can_complete, is_open_row, shows_note, touched};
 
 use crate::groups::stop_in;
-use crate::multiset::Multiset;
 use crate::table::Table;
-use crate::threads::Threads;
+use tr_index::Multiset;
 use tr_model::Group;
+use tr_threads::Threads;
 
 // Which groups have to be looked at, since their stops may be complete ("Group-stop" of ptrace(2)) or the starter may have
 // to be told of them (waitpid(2)). No call here takes memory.

@@ -8,8 +8,8 @@ use Rattle.std.proofs.lemmas.List.Elements.{All-cons, All-head, All-nil, All-tai
 use Rattle.std.proofs.lemmas.List.Sums.{count_by-le-length, length-filter}
 use Rattle.tr_model.specs.Entries.{Entry}
 use Rattle.tr_model.specs.declared.replies.Reply.{Reply}
-use Rattle.tr_table.specs.Starts.{no_repeat}
-use Rattle.tr_table.proofs.Ids.{any_mapped}
+use Rattle.tr_starts.specs.Starts.{no_repeat}
+use Rattle.tr_index.proofs.Mapped.{any_mapped}
 use Rattle.tr_kernel.specs.States.{State}
 use Rattle.tr_kernel.specs.declared.answers.Receipt.{Receipt}
 use Rattle.tr_workers.specs.declared.receipts.Receipts.{Receipts}

@@ -1,7 +1,7 @@
 -- What only private functions' contracts cite.
 use Rattle.std.specs.Prelude.{◌≡◌, ℕ, ◌+◌, ◌-◌, ◌<◌, Bool, List, [], ◌∷◌, map, Some, MatchOption, slice_get, IsTrue}
 use Rattle.std.specs.List.{All, list_all}
-use Rattle.tr_table.specs.Starts.{no_repeat}
+use Rattle.tr_starts.specs.Starts.{no_repeat}
 use Rattle.tr_kernel.specs.States.{State}
 use Rattle.tr_kernel.specs.declared.answers.Receipt.{Receipt}
 use Rattle.tr_workers.specs.declared.scripts.Script.{Script}

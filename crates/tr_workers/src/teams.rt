@@ -12,7 +12,7 @@ use std::alloc::{AllocError, Global};
 use std::sync::Wait;
 use std::thread::{self, Promise, PromisedHandle, Scope, Threads};
 use tr_hub::{Hub, Parts, Seat};
-use tr_table::Items;
+use tr_starts::Items;
 
 /// A worker's seat after its work, and what it hands back.
 #[derive(Drop)]

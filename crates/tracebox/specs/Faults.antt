@@ -1,8 +1,8 @@
 -- How the program tells its faults, and what it exits with.
 use Rattle.std.specs.Prelude.{ℕ, List, codes}
-use Rattle.tr_scenario.specs.declared.faults.ScenarioFault.{ScenarioFault}
-use Rattle.tr_scenario.specs.declared.faults.ScenarioFault.TheVariants.{NoMemory, ReadFault, WriteFault}
-use Rattle.tr_scenario.specs.Faults.{scenario_fault_name}
+use Rattle.tr_reading.specs.declared.faults.ScenarioFault.{ScenarioFault}
+use Rattle.tr_reading.specs.declared.faults.ScenarioFault.TheVariants.{NoMemory, ReadFault, WriteFault}
+use Rattle.tr_reading.specs.Faults.{scenario_fault_name}
 use Rattle.tracebox.specs.declared.faults.Fault.{Fault}
 use Rattle.tracebox.specs.declared.faults.Fault.TheVariants.{Usage, NotAWord, Scenario}
 use Rattle.tracebox.specs.Meanings.{line}

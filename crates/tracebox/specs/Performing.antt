@@ -6,8 +6,8 @@ use Rattle.tr_wait.specs.declared.words.Word.{Word}
 use Rattle.tr_wait.specs.Words.{IsMeaning}
 use Rattle.tr_status.specs.declared.sinks.Failed.{Failed}
 use Rattle.tr_status.specs.Writing.{Writes}
-use Rattle.tr_scenario.specs.declared.faults.ScenarioFault.{ScenarioFault}
-use Rattle.tr_scenario.specs.declared.faults.ScenarioFault.TheVariants as scenario
+use Rattle.tr_reading.specs.declared.faults.ScenarioFault.{ScenarioFault}
+use Rattle.tr_reading.specs.declared.faults.ScenarioFault.TheVariants as scenario
 use Rattle.tr_scenario.specs.Serial.{Devices, Runs}
 use Rattle.tr_scenario.specs.Sources.{Shown}
 use Rattle.tr_scenario.specs.Threaded.{RunsThreaded}
@@ -17,15 +17,15 @@ use Rattle.tr_picture.specs.Draws.{Draws}
 use Rattle.tr_reasons.specs.Explains.{Explains}
 use Rattle.tr_schedules.specs.Exploring.{Explores}
 use Rattle.tr_schedules.specs.Replaying.{Replays}
-use Rattle.tracebox.specs.declared.asking.Ask.{Ask}
-use Rattle.tracebox.specs.declared.asking.Ask.TheVariants.{Serial, Threads, Explore, Replay, Explain, Draw, Live, Compare, Decode}
-use Rattle.tracebox.specs.declared.asking.AskFault.{AskFault}
-use Rattle.tracebox.specs.declared.asking.AskFault.TheVariants as asking
+use Rattle.tr_commands.specs.declared.asking.Ask.{Ask}
+use Rattle.tr_commands.specs.declared.asking.Ask.TheVariants.{Serial, Threads, Explore, Replay, Explain, Draw, Live, Compare, Decode}
+use Rattle.tr_commands.specs.declared.asking.AskFault.{AskFault}
+use Rattle.tr_commands.specs.declared.asking.AskFault.TheVariants as asking
 use Rattle.tracebox.specs.declared.faults.Fault.{Fault}
 use Rattle.tracebox.specs.declared.faults.Fault.TheVariants.{Usage, NotAWord, Scenario}
 use Rattle.tracebox.specs.declared.performing.Ending.{Ending}
 use Rattle.tracebox.specs.declared.performing.Ending.TheVariants.{Done, Differs, NoEnd, TooMany}
-use Rattle.tracebox.specs.Asks.{Answers, Blames}
+use Rattle.tr_commands.specs.Asks.{Answers, Blames}
 use Rattle.tracebox.specs.Faults.{fault_line, fault_status}
 use Rattle.tracebox.specs.Meanings.{meaning_line}
 

@@ -1,11 +1,11 @@
 ghost use Rattle.std.specs.Prelude.{◌≡◌, ◌≢◌};
-ghost use Rattle.tr_scenario.specs.declared.faults.ScenarioFault.TheVariants as scenario;
+ghost use Rattle.tr_reading.specs.declared.faults.ScenarioFault.TheVariants as scenario;
 ghost use Rattle.tracebox.specs.declared.faults.Fault.TheVariants.{Scenario, Usage};
 ghost use Rattle.tracebox.specs.Faults.{fault_name, fault_status};
 
 use std::alloc::AllocError;
 use std::io::ErrorKind;
-use tr_scenario::ScenarioFault;
+use tr_reading::ScenarioFault;
 use tr_status::Failed;
 
 /// Why the program didn't do what it was asked for.

@@ -3,11 +3,8 @@
 //! wait status words mean.
 #![tactic(auto)]
 
-mod asking;
-mod commands;
 mod faults;
 mod meanings;
-mod numerals;
 mod performing;
 #[cfg(test)]
 mod tests;

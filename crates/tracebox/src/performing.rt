@@ -1,11 +1,10 @@
 ghost use Rattle.std.specs.Prelude.{◌≡◌, ◌≢◌, ◌+◌, ◌<◌, ◌-◌, ◌^◌, Err, IfErr, IfOk, map};
 ghost use Rattle.std.specs.IoError.{error_kind};
-ghost use Rattle.tr_scenario.specs.declared.faults.ScenarioFault.TheVariants as scenario;
+ghost use Rattle.tr_reading.specs.declared.faults.ScenarioFault.TheVariants as scenario;
 ghost use Rattle.tracebox.specs.declared.faults.Fault.TheVariants.{Scenario, Usage};
 ghost use Rattle.tracebox.specs.Faults.{fault_status};
 ghost use Rattle.tracebox.specs.Performing.{Attempts, Declines, Decodes, Ends, Performs, Says, Tells, ending_of, ending_status, replay_ending, search_ending};
 
-use crate::asking::{Ask, AskFault, Declined, asked};
 use crate::faults::{Fault, words_fault};
 use crate::meanings::{put_line, write_meaning};
 use std::alloc::Global;
@@ -14,10 +13,12 @@ use std::io::{self, ErrorKind};
 use std::sync::Wait;
 use std::thread::Threads;
 use tr_answers::compare;
+use tr_commands::{Ask, AskFault, Declined, asked};
 use tr_live::converse;
 use tr_picture::draw;
+use tr_reading::ScenarioFault;
 use tr_reasons::explain;
-use tr_scenario::{ScenarioFault, Source, serial, threaded};
+use tr_scenario::{Source, serial, threaded};
 use tr_schedules::{explore_schedules, replay_end};
 use tr_status::{Sink, put_all};
 use tr_wait::{Word, decode};

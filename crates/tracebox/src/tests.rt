@@ -18,7 +18,7 @@ use std::process::Abort;
 use std::sync::Wait;
 use std::test::Fail;
 use std::thread::Threads;
-use tr_scenario::ScenarioFault;
+use tr_reading::ScenarioFault;
 
 /// What a command line is performed with, and what a test fails by.
 trait Machine: Abort + AllocGlobal + Threads + Wait + Sync {}

@@ -2,7 +2,7 @@ use super::BLOCKED;
 use super::devices::{blank_tape, compare_to};
 use std::process::Abort;
 use std::test::Fail;
-use tr_scenario::ScenarioFault;
+use tr_reading::ScenarioFault;
 
 /// Two groups, whose threads block USR1 and USR2. The first group catches both.
 const GROUPS: &str =

@@ -1,6 +1,7 @@
 use std::io::{self, Error, ErrorKind, Read, Write};
 use tr_answers::compare;
-use tr_scenario::{FromReader, ScenarioFault, ToWriter};
+use tr_reading::ScenarioFault;
+use tr_scenario::{FromReader, ToWriter};
 
 /// Gives a text, seven bytes a read. Each second read is interrupted, and after some reads it breaks.
 #[derive(Drop)]

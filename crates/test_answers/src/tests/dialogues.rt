@@ -3,7 +3,8 @@ use super::same;
 use std::process::Abort;
 use std::test::Fail;
 use tr_live::converse;
-use tr_scenario::{FromReader, ScenarioFault, ToWriter};
+use tr_reading::ScenarioFault;
+use tr_scenario::{FromReader, ToWriter};
 
 /// One thread that blocks nothing.
 const START: &str =

@@ -3,7 +3,7 @@ use std::test::Fail;
 use tr_encoding::{Call, call_value, scenario_text};
 use tr_group::Action;
 use tr_model::Event;
-use tr_scenario::{Job, read};
+use tr_reading::{Job, read};
 use tr_sigset::SigSet;
 use tr_tracee::Options;
 use tr_wait::{WaitFlags, Which};

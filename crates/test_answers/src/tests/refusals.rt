@@ -2,7 +2,7 @@ use super::BLOCKED;
 use std::process::Abort;
 use std::test::Fail;
 use tr_answers::read;
-use tr_scenario::ScenarioFault;
+use tr_reading::ScenarioFault;
 
 /// What is wrong with a text, by its name, or `none`.
 fn told_of(rt: &impl AllocGlobal, text: &str) -> Result<String, Fail> {
@@ -71,7 +71,7 @@ fn faults_of_steps(rt: HostRuntime) -> Result<(), Fail> {
 
 #[test]
 fn a_scenario_has_no_answers(rt: HostRuntime) {
-    let fault = tr_scenario::read(rt.alloc(), BLOCKED.as_bytes()).err();
+    let fault = tr_reading::read(rt.alloc(), BLOCKED.as_bytes()).err();
     assert_eq!(rt; fault, Some(ScenarioFault::BadField));
 }
 

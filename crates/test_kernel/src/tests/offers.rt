@@ -5,7 +5,7 @@ use tr_kernel::Kernel;
 use tr_model::{Did, Event, Reply};
 use tr_oracle::{Told, Verdict, compare, offered};
 use tr_sigset::SigSet;
-use tr_table::Items;
+use tr_starts::Items;
 use tr_tracee::Options;
 use tr_wait::{WaitFlags, Which};
 

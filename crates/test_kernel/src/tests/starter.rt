@@ -4,7 +4,7 @@ use std::test::Fail;
 use tr_kernel::Kernel;
 use tr_model::{Event, Refusal, Reply};
 use tr_sigset::SigSet;
-use tr_table::{GroupStart, Items, Start};
+use tr_starts::{GroupStart, Items, Start};
 use tr_wait::{WaitFlags, Which};
 
 // Waits of the starter for one group of many, and for any.

@@ -6,8 +6,10 @@ use tr_group::Action;
 use tr_model::Target;
 use tr_pending::Info;
 use tr_sigset::{SigSet, Signal};
+use tr_starts::{GroupStart, Items, Start};
 use tr_status::{Sink, StatusFault, write_status_of};
-use tr_table::{GroupStart, Items, Start, Table, ThreadChange};
+use tr_table::Table;
+use tr_threads::ThreadChange;
 
 /// Takes at most `most` bytes a put, and fails at each put but the first `puts`.
 #[derive(Drop)]

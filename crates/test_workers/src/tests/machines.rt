@@ -5,7 +5,7 @@ use std::process::Abort;
 use std::test::Fail;
 use tr_hub::{Answer, Receipt};
 use tr_model::{Event, Refusal, Reply};
-use tr_table::Items;
+use tr_starts::Items;
 use tr_wait::{WaitFlags, Which};
 use tr_workers::{Calls, Ended, Item, Plan, Repeat, Script, Served, run, settle};
 

@@ -9,7 +9,7 @@ use std::slice;
 use std::sync::atomic::{AtomicU64, Ordering};
 use std::test::Fail;
 use tr_model::Event;
-use tr_table::{Items, Start};
+use tr_starts::{Items, Start};
 use tr_workers::{Ended, Gate, Plan, Receipts, RunFault, Script, Served, run, settle, work};
 
 /// Says yes at every turn, and counts the turns.

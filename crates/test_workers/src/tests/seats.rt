@@ -13,7 +13,7 @@ use tr_hub::{Answer, Hub, HubFault, Parts, Seat, WaitCall};
 use tr_kernel::Kernel;
 use tr_model::{Refusal, Reply};
 use tr_sigset::SigSet;
-use tr_table::{GroupStart, Items, Start};
+use tr_starts::{GroupStart, Items, Start};
 use tr_wait::Which;
 
 // A hub, called from its seats by one thread.

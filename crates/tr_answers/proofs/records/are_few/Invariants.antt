@@ -1,5 +1,5 @@
 use Rattle.std.proofs.Common.{◌≡◌, ◌+◌, ◌≤◌, drop, map}
-use Rattle.tr_scenario.specs.Scenarios.{calls_of_steps}
+use Rattle.tr_reading.specs.Scenarios.{calls_of_steps}
 use Rattle.tr_answers.proofs.records.are_few.Given as goal
 
 abbrev pub invariant-loop-answered : goal.invariant-loop-answered

@@ -1,6 +1,6 @@
 use Rattle.std.proofs.Common.{Err, Ok}
 use Rattle.std.proofs.lemmas.Result.{err_from_is_err_and}
-use Rattle.tr_scenario.proofs.NotJson.{not_json_is_exact}
+use Rattle.tr_reading.proofs.NotJson.{not_json_is_exact}
 use Rattle.tr_answers.specs.Records.{record_in, record_of}
 use Rattle.tr_answers.proofs.Spared.{of_record}
 use Rattle.tr_answers.proofs.records.read.Goals as goal

@@ -1,5 +1,5 @@
 use Rattle.serde_json.specs.View.{view}
-use Rattle.tr_scenario.proofs.Texts.{some_bytes, within}
+use Rattle.tr_reading.proofs.Texts.{some_bytes, within}
 use Rattle.tr_answers.proofs.records.read_with_value.Goals as goal
 
 pub returns-in_err-record-clause-memory : goal.returns-in_err-record-clause-memory

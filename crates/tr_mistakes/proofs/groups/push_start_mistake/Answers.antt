@@ -1,7 +1,7 @@
 use Rattle.std.proofs.Common.{◌≡◌, ◌∙◌, true, false, codes}
 use Rattle.std.specs.Prelude.{is_err}
 use Rattle.serde_json.specs.View.{view}
-use Rattle.tr_scenario.specs.Fields.{id_at}
+use Rattle.tr_reading.specs.Fields.{id_at}
 use Rattle.tr_mistakes.proofs.Spoken.{decided, further, on_ok, second}
 use Rattle.tr_mistakes.proofs.groups.push_start_mistake.Goals as goal
 

@@ -1,5 +1,5 @@
 use Rattle.std.proofs.Common.{◌≡◌, drop}
-use Rattle.tr_table.specs.Starts.{is_good_group}
+use Rattle.tr_starts.specs.Starts.{is_good_group}
 use Rattle.tr_mistakes.specs.Wholes.{bad_group, first_bad}
 use Rattle.tr_mistakes.proofs.wholes.push_bad_groups.Given as goal
 

@@ -2,7 +2,7 @@ use Rattle.std.proofs.Common.{◌≡◌, ◌==◌, ◌∙◌, ◌+◌, Bool, tru
 use Rattle.std.proofs.lemmas.Grind.{common_steps}
 use Rattle.std.proofs.lemmas.List.{take_more}
 use Rattle.std.specs.List.{list_any}
-use Rattle.tr_scenario.proofs.Repeats.{seen_more}
+use Rattle.tr_reading.proofs.Repeats.{seen_more}
 use Rattle.tr_mistakes.specs.Wholes.{again}
 use Rattle.tr_mistakes.proofs.Spoken.{again_left, as_not}
 use Rattle.tr_mistakes.proofs.wholes.repeated.Goals as goal

@@ -1,7 +1,7 @@
 use Rattle.std.proofs.Common.{◌+◌, [], ◌∷◌, codes, decimal}
-use Rattle.tr_picture.specs.declared.styles.Style.TheVariants.{Dim, Ink}
-use Rattle.tr_picture.specs.Elements.{words}
-use Rattle.tr_picture.proofs.Pushed.{pushed_two}
+use Rattle.tr_figures.specs.declared.styles.Style.TheVariants.{Dim, Ink}
+use Rattle.tr_figures.specs.Elements.{words}
+use Rattle.tr_figures.proofs.Pushed.{pushed_two}
 use Rattle.tr_picture.proofs.canvas.push_actor_head.Goals as goal
 
 pub returns : goal.returns

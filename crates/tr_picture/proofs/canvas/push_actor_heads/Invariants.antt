@@ -1,6 +1,6 @@
 use Rattle.std.proofs.Common.{◌≡◌, ◌+◌, ◌*◌, ◌++◌, drop}
 use Rattle.tr_picture.specs.Drawn.{actor_heads}
-use Rattle.tr_picture.specs.Elements.{printed}
+use Rattle.tr_figures.specs.Elements.{printed}
 use Rattle.tr_picture.proofs.canvas.push_actor_heads.Given as goal
 
 abbrev pub invariant-loop-actor : goal.invariant-loop-actor

@@ -1,6 +1,6 @@
 use Rattle.std.proofs.Common.{◌+◌, ◌*◌, codes}
 use Rattle.tr_status.specs.Texts.{texts}
-use Rattle.tr_picture.specs.Elements.{Open, token_pieces}
+use Rattle.tr_figures.specs.Elements.{Open, token_pieces}
 use Rattle.tr_picture.specs.Rows.{moved_down}
 use Rattle.tr_picture.proofs.Pushed.{three_parts}
 use Rattle.tr_picture.proofs.canvas.push_placed.Goals as goal

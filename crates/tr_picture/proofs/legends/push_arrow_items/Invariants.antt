@@ -1,5 +1,5 @@
 use Rattle.std.proofs.Common.{◌≡◌, ◌+◌, ◌*◌, ◌++◌, drop, map}
-use Rattle.tr_picture.specs.Elements.{printed}
+use Rattle.tr_figures.specs.Elements.{printed}
 use Rattle.tr_picture.specs.Legends.{arrow_items}
 use Rattle.tr_picture.proofs.legends.push_arrow_items.Given as goal
 

@@ -1,7 +1,7 @@
 use Rattle.std.proofs.Common.{◌+◌, [], ◌∷◌}
-use Rattle.tr_picture.specs.declared.styles.Style.TheVariants.{Ink}
-use Rattle.tr_picture.specs.Elements.{rect, words}
-use Rattle.tr_picture.proofs.Pushed.{pushed_two}
+use Rattle.tr_figures.specs.declared.styles.Style.TheVariants.{Ink}
+use Rattle.tr_figures.specs.Elements.{rect, words}
+use Rattle.tr_figures.proofs.Pushed.{pushed_two}
 use Rattle.tr_picture.proofs.legends.push_block_item.Goals as goal
 
 pub returns : goal.returns

@@ -1,5 +1,5 @@
 use Rattle.std.proofs.Common.{◌≡◌, ◌+◌, ◌*◌, ◌++◌, drop, map}
-use Rattle.tr_picture.specs.Elements.{printed}
+use Rattle.tr_figures.specs.Elements.{printed}
 use Rattle.tr_picture.specs.Legends.{block_items}
 use Rattle.tr_picture.proofs.legends.push_block_items.Given as goal
 

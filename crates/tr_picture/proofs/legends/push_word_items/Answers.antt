@@ -1,9 +1,9 @@
 use Rattle.std.proofs.Common.{◌+◌, ◌∙◌, ◌++◌, [], ap, append-nil, arith, drop, drop_of_length-le, get_or, map, sym}
 use Rattle.tr_picture.specs.declared.legends.Meaning.{Meaning}
-use Rattle.tr_picture.specs.declared.styles.Style.TheVariants.{Running}
-use Rattle.tr_picture.specs.Elements.{printed}
+use Rattle.tr_figures.specs.declared.styles.Style.TheVariants.{Running}
+use Rattle.tr_figures.specs.Elements.{printed}
 use Rattle.tr_picture.specs.Legends.{word_item, word_items}
-use Rattle.tr_picture.proofs.Pushed.{first_left, next_pushed}
+use Rattle.tr_figures.proofs.Pushed.{first_left, next_pushed}
 use Rattle.tr_picture.proofs.legends.push_word_items.Goals as goal
 
 pub loop-meaning-preserved : goal.loop-meaning-preserved

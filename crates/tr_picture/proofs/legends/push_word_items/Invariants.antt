@@ -1,5 +1,5 @@
 use Rattle.std.proofs.Common.{◌≡◌, ◌+◌, ◌*◌, ◌++◌, drop, map}
-use Rattle.tr_picture.specs.Elements.{printed}
+use Rattle.tr_figures.specs.Elements.{printed}
 use Rattle.tr_picture.specs.Legends.{word_items}
 use Rattle.tr_picture.proofs.legends.push_word_items.Given as goal
 

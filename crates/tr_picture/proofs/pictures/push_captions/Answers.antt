@@ -1,6 +1,6 @@
 use Rattle.std.proofs.Common.{[], ◌∷◌, codes}
-use Rattle.tr_picture.specs.declared.styles.Style.TheVariants.{Dim}
-use Rattle.tr_picture.specs.Elements.{words}
+use Rattle.tr_figures.specs.declared.styles.Style.TheVariants.{Dim}
+use Rattle.tr_figures.specs.Elements.{words}
 use Rattle.tr_picture.proofs.Pushed.{pushed_three}
 use Rattle.tr_picture.proofs.pictures.push_captions.Goals as goal
 

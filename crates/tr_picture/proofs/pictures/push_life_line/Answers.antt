@@ -1,7 +1,7 @@
 use Rattle.std.proofs.Common.{◌+◌, [], ◌∷◌, decimal}
-use Rattle.tr_picture.specs.declared.styles.Style.TheVariants.{Dim}
-use Rattle.tr_picture.specs.Elements.{line, words}
-use Rattle.tr_picture.proofs.Pushed.{pushed_two}
+use Rattle.tr_figures.specs.declared.styles.Style.TheVariants.{Dim}
+use Rattle.tr_figures.specs.Elements.{line, words}
+use Rattle.tr_figures.proofs.Pushed.{pushed_two}
 use Rattle.tr_picture.proofs.pictures.push_life_line.Goals as goal
 
 pub returns : goal.returns

@@ -1,6 +1,6 @@
 use Rattle.std.proofs.Common.{◌+◌, ap, arith, drop, get_or}
 use Rattle.tr_picture.specs.Pictures.{life_line, life_lines}
-use Rattle.tr_picture.proofs.Pushed.{first_left, next_pushed}
+use Rattle.tr_figures.proofs.Pushed.{first_left, next_pushed}
 use Rattle.tr_picture.proofs.pictures.push_life_lines.Goals as goal
 
 pub loop-actor-preserved : goal.loop-actor-preserved

@@ -1,5 +1,5 @@
 use Rattle.std.proofs.Common.{[], ◌∷◌, codes}
-use Rattle.tr_picture.specs.Elements.{none, text}
+use Rattle.tr_figures.specs.Elements.{none, text}
 use Rattle.tr_picture.specs.Pictures.{summary, word_at}
 use Rattle.tr_picture.proofs.Printed.{pushed_tag}
 use Rattle.tr_picture.proofs.pictures.push_picture_title.Goals as goal

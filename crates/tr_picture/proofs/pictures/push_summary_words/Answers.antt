@@ -1,6 +1,6 @@
-use Rattle.tr_picture.specs.declared.styles.Style.TheVariants.{Ink}
+use Rattle.tr_figures.specs.declared.styles.Style.TheVariants.{Ink}
 use Rattle.tr_picture.specs.Pictures.{summary}
-use Rattle.tr_picture.proofs.Printed.{pushed_words}
+use Rattle.tr_figures.proofs.Printed.{pushed_words}
 use Rattle.tr_picture.proofs.pictures.push_summary_words.Goals as goal
 
 pub returns : goal.returns

@@ -1,7 +1,7 @@
 use Rattle.std.proofs.Common.{◌∙◌, ap}
 use Rattle.tr_workers.specs.Follows.{heard}
 use Rattle.tr_scenario.specs.RunTexts.{call_of}
-use Rattle.tr_picture.specs.Joins.{joined}
+use Rattle.tr_figures.specs.Joins.{joined}
 use Rattle.tr_picture.specs.Layouts.{aimed_place, lanes_left}
 use Rattle.tr_picture.proofs.Rowed.{row_filled}
 use Rattle.tr_picture.proofs.rows.push_row_inside.Goals as goal

@@ -2,7 +2,7 @@ use Rattle.std.proofs.Common.{◌≡◌, ◌++◌, ◌≤◌, ◌∙◌, ap, len
 use Rattle.std.proofs.lemmas.Result.{err_from_is_err_and}
 use Rattle.tr_model.specs.Journals.{totals}
 use Rattle.tr_model.specs.Tables.{Table}
-use Rattle.tr_table.specs.Starts.{table_of}
+use Rattle.tr_starts.specs.Starts.{table_of}
 use Rattle.tr_status.specs.Writing.{IsFront}
 use Rattle.tr_scenario.specs.Lines.{totals_text}
 use Rattle.tr_scenario.specs.Printing.{IsHalt}

@@ -1,5 +1,5 @@
 use Rattle.std.proofs.lemmas.Result.{err_from_is_err_and}
-use Rattle.tr_table.specs.Starts.{table_of}
+use Rattle.tr_starts.specs.Starts.{table_of}
 use Rattle.tr_scenario.specs.Kernels.{so_far}
 use Rattle.tr_scenario.specs.RunTexts.{end_text, state_after}
 use Rattle.tr_scenario.specs.Serial.{job_calls, job_text}

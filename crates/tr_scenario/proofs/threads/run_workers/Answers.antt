@@ -1,5 +1,5 @@
 use Rattle.std.proofs.Common.{◌≡◌, ◌∙◌, List, ap, map, subst}
-use Rattle.tr_table.specs.Starts.{no_repeat}
+use Rattle.tr_starts.specs.Starts.{no_repeat}
 use Rattle.tr_workers.specs.declared.scripts.Script.{Script}
 use Rattle.tr_scenario.specs.Threaded.{IsRun, scripts_of_job}
 use Rattle.tr_scenario.proofs.Scripts.{job_is_distinct}

@@ -1,7 +1,7 @@
 use Rattle.std.proofs.Common.{◌≡◌, ◌∙◌, ◌==◌, ◌∷◌, ◌+◌, Bool, List, ap, drop, filter, sym}
 use Rattle.std.specs.List.{list_any}
 use Rattle.std.proofs.lemmas.List.{drop_more}
-use Rattle.tr_table.specs.declared.slots.Slot.{Slot}
+use Rattle.tr_queues.specs.declared.slots.Slot.{Slot}
 use Rattle.tr_table.specs.Choices.{goes_first, open_in}
 use Rattle.tr_table.proofs.Targets.{none_chosen}
 use Rattle.tr_table.proofs.choices.may_take.Goals as goal

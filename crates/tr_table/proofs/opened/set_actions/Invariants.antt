@@ -1,5 +1,5 @@
 use Rattle.std.proofs.Common.{◌≡◌, drop, length}
-use Rattle.tr_table.specs.Starts.{with_actions}
+use Rattle.tr_starts.specs.Starts.{with_actions}
 use Rattle.tr_table.proofs.opened.set_actions.Given as goal
 
 abbrev pub invariant-loop-signal : goal.invariant-loop-signal

@@ -1,7 +1,7 @@
 use Rattle.std.proofs.Common.{◌≡◌, ◌++◌, drop, map}
 use Rattle.std.specs.Prelude.{IsTrue}
 use Rattle.std.specs.List.{list_all}
-use Rattle.tr_table.specs.Starts.{group_started, name_fits}
+use Rattle.tr_starts.specs.Starts.{group_started, name_fits}
 use Rattle.tr_table.proofs.opened.started_groups.Given as goal
 
 abbrev pub invariant-loop-group : goal.invariant-loop-group

@@ -1,5 +1,5 @@
 use Rattle.std.proofs.Common.{◌≡◌, ◌++◌, drop}
-use Rattle.tr_table.specs.Starts.{all_started}
+use Rattle.tr_starts.specs.Starts.{all_started}
 use Rattle.tr_table.proofs.opened.started_threads.Given as goal
 
 abbrev pub invariant-loop-group : goal.invariant-loop-group

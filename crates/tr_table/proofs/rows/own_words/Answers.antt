@@ -1,7 +1,7 @@
 use Rattle.std.proofs.Common.{rules, ◌≡◌, List}
 use Rattle.tr_model.specs.declared.rows.Waiting.{Waiting}
-use Rattle.tr_table.specs.Queues.{count_own}
-use Rattle.tr_table.specs.Slots.{standing}
+use Rattle.tr_queues.specs.Queues.{count_own}
+use Rattle.tr_queues.specs.Slots.{standing}
 use Rattle.tr_table.proofs.RowWords.{own_zeros}
 use Rattle.tr_table.proofs.rows.own_words.Goals as goal
 

@@ -3,9 +3,10 @@ use Rattle.tr_tracee.specs.declared.thread.Thread.{Thread}
 use Rattle.tr_tracee.specs.Threads.{in_group}
 use Rattle.tr_model.specs.declared.rows.Waiting.{Waiting}
 use Rattle.tr_model.specs.Tables.{ids_of}
-use Rattle.tr_table.specs.Rosters.{RosterView}
-use Rattle.tr_table.specs.Rows.{AreOwn, AreWords, blocked_word, runnable_word}
-use Rattle.tr_table.specs.Slots.{standing}
+use Rattle.tr_threads.specs.Rosters.{RosterView}
+use Rattle.tr_threads.specs.Rows.{AreWords, blocked_word, runnable_word}
+use Rattle.tr_table.specs.Rows.{AreOwn}
+use Rattle.tr_queues.specs.Slots.{standing}
 use Rattle.tr_table.proofs.RowWords.{rows_are}
 use Rattle.tr_table.proofs.rows.rows_of.Goals as goal
 

@@ -4,11 +4,12 @@ use Rattle.tr_tracee.specs.declared.thread.Thread.{Thread}
 use Rattle.tr_tracee.specs.Threads.{in_group}
 use Rattle.tr_model.specs.declared.rows.Waiting.{Waiting}
 use Rattle.tr_model.specs.Tables.{ids_of}
-use Rattle.tr_table.specs.Rosters.{RosterView}
-use Rattle.tr_table.specs.Rows.{AreOwn, AreWords, blocked_word, runnable_word}
-use Rattle.tr_table.specs.Slots.{standing}
+use Rattle.tr_threads.specs.Rosters.{RosterView}
+use Rattle.tr_threads.specs.Rows.{AreWords, blocked_word, runnable_word}
+use Rattle.tr_table.specs.Rows.{AreOwn}
+use Rattle.tr_queues.specs.Slots.{standing}
 use Rattle.tr_table.proofs.RowWords.{own_zeros, rows_are}
-use Rattle.tr_table.proofs.ThreadLists.{ids_length}
+use Rattle.tr_threads.proofs.ThreadLists.{ids_length}
 use Rattle.tr_table.proofs.rows.shared_rows_of.Goals as goal
 
 pub returns-in-Some : goal.returns-in-Some

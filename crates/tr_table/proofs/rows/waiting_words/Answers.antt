@@ -1,7 +1,7 @@
 use Rattle.std.proofs.Common.{◌≡◌, ◌+◌, ◌<◌, ◌++◌, ◌∷◌, [], ℕ, List, arith, get_or, length, length-take, take}
 use Rattle.std.proofs.lemmas.List.{take_more}
 use Rattle.tr_model.specs.declared.rows.Waiting.{Waiting}
-use Rattle.tr_table.specs.Slots.{standing}
+use Rattle.tr_queues.specs.Slots.{standing}
 use Rattle.tr_table.proofs.RowWords.{own_last, own_length}
 use Rattle.tr_table.proofs.rows.waiting_words.Goals as goal
 

@@ -2,7 +2,7 @@ use Rattle.std.proofs.Common.{◌<◌, ◌^◌, [], length, arith, ap, refl, sym
 use Rattle.tr_model.specs.Compare.{Permits}
 use Rattle.tr_kernel.specs.States.{State}
 use Rattle.tr_kernel.proofs.Histories.{counted, few_after, few_same, written_history, written_made}
-use Rattle.tr_table.specs.Starts.{table_of}
+use Rattle.tr_starts.specs.Starts.{table_of}
 use Rattle.tr_kernel.proofs.Noticed.{length_notes}
 use Rattle.tr_kernel.proofs.Noting.{few_times, noted_goes_on}
 use Rattle.tr_kernel.proofs.kernels.Kernel.enter.Goals as goal

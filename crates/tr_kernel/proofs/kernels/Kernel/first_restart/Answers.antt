@@ -1,5 +1,5 @@
 use Rattle.std.proofs.Common.{◌∙◌, ap, sym, subst, length}
-use Rattle.tr_table.specs.Starts.{table_of}
+use Rattle.tr_starts.specs.Starts.{table_of}
 use Rattle.tr_kernel.specs.Notes.{notes_of}
 use Rattle.tr_kernel.specs.Private.{AreOrdered}
 use Rattle.tr_kernel.proofs.Noticed.{length_notes, notes_ordered}

@@ -2,7 +2,7 @@ use Rattle.std.proofs.Common.{◌≡◌, ◌+◌, ◌∙◌, sym, ap, subst}
 use Rattle.tr_model.specs.declared.fates.Totals.{Totals}
 use Rattle.tr_model.specs.Journals.{totals}
 use Rattle.tr_model.proofs.Tally.{fates_sum}
-use Rattle.tr_table.specs.Starts.{table_of}
+use Rattle.tr_starts.specs.Starts.{table_of}
 use Rattle.tr_kernel.specs.Private.{tally}
 use Rattle.tr_kernel.specs.States.{State}
 use Rattle.tr_kernel.proofs.Histories.{counted, tally_is}

@@ -1,7 +1,7 @@
 use Rattle.std.proofs.Common.{◌+◌, ◌≡◌, ◌∙◌, ap, drop, get_or, sym}
-use Rattle.tr_table.specs.declared.starts.GroupStart.{GroupStart}
+use Rattle.tr_starts.specs.declared.starts.GroupStart.{GroupStart}
 use Rattle.tr_picture.specs.Drawn.{Drawn, with_group, with_groups, with_threads}
-use Rattle.tr_picture.proofs.Pushed.{first_left}
+use Rattle.tr_figures.proofs.Pushed.{first_left}
 use Rattle.tr_picture.proofs.canvas.Canvas.add_groups.Goals as goal
 
 pub loop-group-preserved : goal.loop-group-preserved

@@ -2,7 +2,7 @@ use Rattle.std.proofs.Common.{◌∙◌, ◌+◌, ℕ, ap, length, sym}
 use Rattle.tr_workers.specs.Follows.{heard}
 use Rattle.tr_scenario.specs.RunTexts.{call_of}
 use Rattle.tr_picture.specs.Drawn.{Drawn}
-use Rattle.tr_picture.specs.Elements.{printed}
+use Rattle.tr_figures.specs.Elements.{printed}
 use Rattle.tr_picture.specs.Rows.{row_inside}
 use Rattle.tr_picture.proofs.Pictured.{shown_is}
 use Rattle.tr_picture.proofs.Rowed.{row_is_something}

@@ -1,7 +1,7 @@
 use Rattle.std.proofs.Common.{◌≡◌, ◌&&◌, ◌∙◌, Bool, ap, arith, is_some, not, sym}
 use Rattle.tr_wait.specs.declared.status.Status.TheVariants as status
 use Rattle.tr_tracee.specs.Threads.{at_group}
-use Rattle.tr_table.specs.Changes.{continued_by}
+use Rattle.tr_threads.specs.Changes.{continued_by}
 use Rattle.tr_model.specs.GroupStops.{ended_stop}
 use Rattle.tr_group.specs.GroupStops.{is_complete}
 use Rattle.tr_model.specs.Tables.{group_of, has_traced, stop_in_effect, stop_of}

@@ -1,5 +1,5 @@
 use Rattle.std.proofs.Common.{◌≡◌, ◌∙◌, ap, arith, length}
-use Rattle.tr_table.specs.Held.{held_count}
+use Rattle.tr_threads.specs.Held.{held_count}
 use Rattle.tr_table.specs.View.{View}
 use Rattle.tr_steps.proofs.Helds.{helds_continued}
 use Rattle.tr_steps.proofs.steps.Step.continue_threads.Goals as goal

@@ -1,5 +1,5 @@
 use Rattle.std.proofs.Common.{◌≡◌, ◌∙◌, ap, arith, length}
-use Rattle.tr_table.specs.Held.{held_count}
+use Rattle.tr_threads.specs.Held.{held_count}
 use Rattle.tr_table.proofs.Helds.{few_of_all}
 use Rattle.tr_steps.proofs.steps.Step.grow.Goals as goal
 

@@ -1,7 +1,7 @@
 use Rattle.std.proofs.Common.{◌≡◌, ap, arith, length, map}
 use Rattle.tr_tracee.specs.Ends.{begun_to_leave}
 use Rattle.tr_tracee.specs.Threads.{at_group}
-use Rattle.tr_table.specs.Held.{held_count}
+use Rattle.tr_threads.specs.Held.{held_count}
 use Rattle.tr_steps.proofs.Helds.{helds_leaving}
 use Rattle.tr_steps.proofs.steps.Step.leave.Goals as goal
 

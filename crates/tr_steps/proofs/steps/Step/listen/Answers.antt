@@ -2,7 +2,7 @@ use Rattle.std.proofs.Common.{◌≡◌, ◌∙◌, Some, ap, arith, length, ref
 use Rattle.std.proofs.lemmas.List.{append-nil}
 use Rattle.tr_model.specs.declared.fates.Fate.TheVariants.{Flushed}
 use Rattle.tr_model.specs.Tables.{thread_of}
-use Rattle.tr_table.specs.Held.{held_count}
+use Rattle.tr_threads.specs.Held.{held_count}
 use Rattle.tr_table.specs.View.{View}
 use Rattle.tr_steps.proofs.Put.{ends_listening, helds_listening}
 use Rattle.tr_steps.proofs.steps.Step.listen.Goals as goal

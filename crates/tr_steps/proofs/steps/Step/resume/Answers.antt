@@ -3,7 +3,8 @@ use Rattle.tr_tracee.specs.Lives.{held}
 use Rattle.tr_tracee.specs.Stops.{restarted}
 use Rattle.tr_model.specs.Moves.{changed}
 use Rattle.tr_model.specs.Tables.{thread_of}
-use Rattle.tr_table.specs.Held.{bool_to_nat, held_count}
+use Rattle.tr_index.specs.Counts.{bool_to_nat}
+use Rattle.tr_threads.specs.Held.{held_count}
 use Rattle.tr_table.specs.View.{View}
 use Rattle.tr_steps.proofs.Put.{ends_restarted, helds_restarted}
 use Rattle.tr_steps.proofs.steps.Step.resume.Goals as goal

@@ -1,7 +1,7 @@
 use Rattle.std.proofs.Common.{◌∙◌, ◌==◌, ℕ, List, is_some, not, ap, sym}
 use Rattle.std.specs.List.{list_any}
 use Rattle.tr_model.specs.declared.rows.Group.{Group}
-use Rattle.tr_table.proofs.Counting.{any_counted}
+use Rattle.tr_threads.proofs.Counting.{any_counted}
 use Rattle.tr_table.proofs.group_list.Groups.has_notes.Goals as goal
 
 pub returns : goal.returns

@@ -1,9 +1,9 @@
 use Rattle.std.proofs.Common.{◌≡◌, ◌∙◌, List, Some, is_some, get_or, arith, ap, subst, sym}
 use Rattle.tr_group.specs.GroupStops.{is_stopping}
 use Rattle.tr_model.specs.declared.rows.Group.{Group}
-use Rattle.tr_table.specs.Held.{bool_to_nat}
+use Rattle.tr_index.specs.Counts.{bool_to_nat}
 use Rattle.tr_table.specs.Private.{IsGroupPlace}
-use Rattle.tr_table.proofs.Counting.{one_counted}
+use Rattle.tr_threads.proofs.Counting.{one_counted}
 use Rattle.tr_table.proofs.GroupLists.{countable, written}
 use Rattle.tr_table.proofs.group_list.Groups.note.Goals as goal
 

@@ -1,6 +1,6 @@
 use Rattle.std.proofs.Common.{◌+◌, ap, arith, subst}
 use Rattle.tr_model.proofs.Sorted.{up_to_later}
-use Rattle.tr_table.specs.Queues.{AllBelow}
+use Rattle.tr_queues.specs.Queues.{AllBelow}
 use Rattle.tr_table.proofs.Orders.{below_next}
 use Rattle.tr_table.proofs.table.Table.accept.Goals as goal
 

@@ -1,7 +1,8 @@
 use Rattle.std.proofs.Common.{◌≡◌}
 use Rattle.tr_tracee.specs.declared.thread.Thread.{Thread}
-use Rattle.tr_table.specs.Changes.{thread_changed_by}
-use Rattle.tr_table.proofs.Keeping.{roster_of_members, same_changed}
+use Rattle.tr_threads.specs.Changes.{thread_changed_by}
+use Rattle.tr_threads.proofs.Keeping.{same_changed}
+use Rattle.tr_table.proofs.Rosters.{roster_of_members}
 use Rattle.tr_table.proofs.Unsettling.{by_members, members_changed, moved}
 use Rattle.tr_table.proofs.table.Table.change_and_flush.Goals as goal
 

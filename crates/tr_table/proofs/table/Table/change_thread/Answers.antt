@@ -3,11 +3,11 @@ use Rattle.std.proofs.lemmas.Bool.{ne_eqb}
 use Rattle.tr_tracee.specs.declared.thread.Thread.{Thread}
 use Rattle.tr_tracee.specs.Threads.{at_thread}
 use Rattle.tr_model.specs.Moves.{changed}
-use Rattle.tr_table.specs.Changes.{thread_changed_by}
+use Rattle.tr_threads.specs.Changes.{thread_changed_by}
 use Rattle.tr_table.specs.View.{View}
-use Rattle.tr_table.proofs.Keeping.{same_changed}
-use Rattle.tr_table.proofs.Onlys.{only_changed}
-use Rattle.tr_table.proofs.Members.{unmoved}
+use Rattle.tr_threads.proofs.Keeping.{same_changed}
+use Rattle.tr_threads.proofs.Onlys.{only_changed}
+use Rattle.tr_threads.proofs.Members.{unmoved}
 use Rattle.tr_table.proofs.Rosters.{roster_set}
 use Rattle.tr_table.proofs.Unsettling.{by_members, moved}
 use Rattle.tr_table.proofs.table.Table.change_thread.Goals as goal

@@ -4,9 +4,9 @@ use Rattle.tr_model.proofs.Sorted.{up_to_less}
 use Rattle.tr_model.specs.declared.fates.Fate.TheVariants.{Delivered}
 use Rattle.tr_model.specs.declared.rows.Waiting.{Waiting}
 use Rattle.tr_model.specs.Moves.{ending_of, instance_in, without_instance}
-use Rattle.tr_table.specs.Slots.{standing}
+use Rattle.tr_queues.specs.Slots.{standing}
 use Rattle.tr_table.proofs.Delivering.{delivered_left, delivered_one, delivery}
-use Rattle.tr_table.proofs.Standing.{standing_sorted}
+use Rattle.tr_queues.proofs.Standing.{standing_sorted}
 use Rattle.tr_table.proofs.table.Table.deliver.Goals.{then-is_some, else-is_some}
 use Rattle.tr_table.proofs.table.Table.deliver.Goals as goal
 

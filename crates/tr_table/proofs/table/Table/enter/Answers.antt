@@ -5,7 +5,7 @@ use Rattle.tr_tracee.specs.Lives.{status_of_stop}
 use Rattle.tr_tracee.specs.Stops.{entered_as, may_enter}
 use Rattle.tr_tracee.specs.Threads.{tracer_of}
 use Rattle.tr_model.specs.Tables.{Table}
-use Rattle.tr_table.specs.Slots.{standing}
+use Rattle.tr_queues.specs.Slots.{standing}
 use Rattle.tr_table.specs.View.{View}
 use Rattle.tr_table.proofs.Moving.{entered, not_entered}
 use Rattle.tr_table.proofs.table.Table.enter.Goals as goal

@@ -3,7 +3,7 @@ use Rattle.tr_model.specs.Preferred.{new_id}
 use Rattle.tr_model.specs.Tables.{Table}
 use Rattle.tr_model.proofs.FreeIds.{new_id_is_new}
 use Rattle.tr_table.specs.Changes.{ids_table}
-use Rattle.tr_table.specs.Slots.{standing}
+use Rattle.tr_queues.specs.Slots.{standing}
 use Rattle.tr_table.specs.View.{View}
 use Rattle.tr_table.proofs.FreeIds.{same_new_id}
 use Rattle.tr_table.proofs.table.Table.free_id.Goals as goal

@@ -4,7 +4,7 @@ use Rattle.tr_tracee.specs.declared.thread.Thread.{Thread}
 use Rattle.tr_tracee.specs.Threads.{is_tracee_of}
 use Rattle.tr_wait.specs.Words.{asks_for}
 use Rattle.tr_table.specs.View.{View}
-use Rattle.tr_table.proofs.Reports.{any_asked, copied_some, one_asked}
+use Rattle.tr_table.proofs.Asked.{any_asked, copied_some, one_asked}
 use Rattle.tr_table.proofs.table.Table.has_asked.Goals as goal
 
 pub returns-in-Some : goal.returns-in-Some

@@ -1,7 +1,7 @@
 use Rattle.std.proofs.Common.{◌≡◌, ◌≤◌, ◌∙◌, ap, length, map}
 use Rattle.std.proofs.lemmas.List.{length-map}
-use Rattle.tr_table.specs.Starts.{group_started}
-use Rattle.tr_table.proofs.GoodStarts.{good_names_fit}
+use Rattle.tr_starts.specs.Starts.{group_started}
+use Rattle.tr_starts.proofs.GoodStarts.{good_names_fit}
 use Rattle.tr_table.proofs.Started.{few_started, groups_once, roster_started}
 use Rattle.tr_table.proofs.table.Table.open.Goals as goal
 

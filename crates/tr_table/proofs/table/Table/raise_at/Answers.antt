@@ -1,9 +1,9 @@
 use Rattle.std.proofs.Common.{◌≡◌, ◌∙◌, ◌==◌, ℕ, false, ap, get_or, sym}
 use Rattle.std.proofs.lemmas.Bool.{ne_eqb}
 use Rattle.tr_tracee.specs.declared.thread.Thread.{Thread}
-use Rattle.tr_table.specs.Changes.{thread_changed_by}
-use Rattle.tr_table.proofs.Keeping.{same_changed}
-use Rattle.tr_table.proofs.Members.{unmoved}
+use Rattle.tr_threads.specs.Changes.{thread_changed_by}
+use Rattle.tr_threads.proofs.Keeping.{same_changed}
+use Rattle.tr_threads.proofs.Members.{unmoved}
 use Rattle.tr_table.proofs.Rosters.{roster_set}
 use Rattle.tr_table.proofs.Unsettling.{by_members, moved}
 use Rattle.tr_table.proofs.table.Table.raise_at.Goals as goal

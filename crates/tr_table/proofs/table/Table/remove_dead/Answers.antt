@@ -1,7 +1,7 @@
 use Rattle.std.proofs.Common.{◌≡◌, ap, subst, sym}
 use Rattle.tr_table.specs.View.{View}
 use Rattle.tr_table.proofs.Rosters.{roster_filter}
-use Rattle.tr_table.proofs.ThreadLists.{left, none_goes}
+use Rattle.tr_threads.proofs.ThreadLists.{left, none_goes}
 use Rattle.tr_table.proofs.Unsettling.{by_members, members_living, moved}
 use Rattle.tr_table.proofs.table.Table.remove_dead.Goals as goal
 

@@ -5,7 +5,7 @@ use Rattle.tr_tracee.specs.Lives.{is_dead, status_of_end}
 use Rattle.tr_tracee.specs.Stops.{reported}
 use Rattle.tr_tracee.specs.Threads.{tracer_of}
 use Rattle.tr_model.specs.Tables.{Table}
-use Rattle.tr_table.specs.Slots.{standing}
+use Rattle.tr_queues.specs.Slots.{standing}
 use Rattle.tr_table.specs.View.{View}
 use Rattle.tr_table.proofs.Moving.{told, not_told}
 use Rattle.tr_table.proofs.table.Table.report_death.Goals as goal

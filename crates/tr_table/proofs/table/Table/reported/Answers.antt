@@ -2,10 +2,10 @@ use Rattle.std.proofs.Common.{◌∙◌, Bool, find, ap, sym}
 use Rattle.tr_tracee.specs.declared.thread.Thread.{Thread}
 use Rattle.tr_wait.specs.Words.{asks_for}
 use Rattle.tr_model.specs.Waits.{asked_tracees}
-use Rattle.tr_table.specs.Tracing.{if_passes}
+use Rattle.tr_threads.specs.Tracing.{if_passes}
 use Rattle.tr_table.specs.View.{View}
-use Rattle.tr_table.specs.Waits.{is_report}
-use Rattle.tr_table.proofs.Reports.{any_found, one_found}
+use Rattle.tr_threads.specs.Waits.{is_report}
+use Rattle.tr_table.proofs.Asked.{any_found, one_found}
 use Rattle.tr_table.proofs.table.Table.reported.Goals as goal
 
 pub returns-in-Some : goal.returns-in-Some

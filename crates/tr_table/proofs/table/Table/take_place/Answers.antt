@@ -8,7 +8,7 @@ use Rattle.tr_model.proofs.Kept.{itself}
 use Rattle.tr_model.proofs.Sorted.{up_to_retargeted}
 use Rattle.tr_table.specs.Order.{IsRoster}
 use Rattle.tr_table.specs.Settled.{NoneBut, touched}
-use Rattle.tr_table.specs.Slots.{standing}
+use Rattle.tr_queues.specs.Slots.{standing}
 use Rattle.tr_table.specs.View.{View}
 use Rattle.tr_table.proofs.Moving.{gone, not_placed, placed, there}
 use Rattle.tr_table.proofs.Rosters.{roster_placed}

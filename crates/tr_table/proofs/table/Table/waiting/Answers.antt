@@ -1,6 +1,6 @@
 use Rattle.std.proofs.Common.{ap, subst}
 use Rattle.tr_model.specs.Journals.{IsSorted}
-use Rattle.tr_table.proofs.Standing.{standing_sorted}
+use Rattle.tr_queues.proofs.Standing.{standing_sorted}
 use Rattle.tr_table.proofs.table.Table.waiting.Goals as goal
 
 pub returns-clause-sorted : goal.returns-clause-sorted

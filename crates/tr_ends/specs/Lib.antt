@@ -1,0 +1,2 @@
+pub mod KnownDeaths
+pub mod Private

@@ -1,0 +1,4 @@
+pub mod Celled
+pub mod Marked
+pub mod Printed
+pub mod Pushed

@@ -1,0 +1,9 @@
+pub mod Calls
+pub mod Cells
+pub mod Details
+pub mod Elements
+pub mod Endings
+pub mod Joins
+pub mod Lives
+pub mod Reports
+pub mod Styles

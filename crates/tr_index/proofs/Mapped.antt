@@ -1,0 +1,7 @@
+-- A test of what a list is mapped to.
+use Rattle.std.proofs.Common.{◌≡◌, List, [], ◌∷◌, refl, map, Bool}
+use Rattle.std.specs.List.{list_any}
+
+pub any_mapped : {X Y : Type 0} (p : Y → Bool) (f : X → Y) (xs : List X) → list_any p (map f xs) ≡ list_any (λ x. p (f x)) xs
+any_mapped p f [] = refl
+any_mapped p f (x ∷ xs) = rw (any_mapped p f xs) refl

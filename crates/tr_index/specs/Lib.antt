@@ -1,0 +1,4 @@
+pub mod Counts
+pub mod Multisets
+pub mod Pages
+pub mod Places

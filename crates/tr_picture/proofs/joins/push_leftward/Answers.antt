@@ -1,8 +1,0 @@
-use Rattle.std.proofs.Common.{◌+◌}
-use Rattle.tr_picture.specs.declared.styles.Style.TheVariants.{Joins}
-use Rattle.tr_picture.specs.Elements.{line, rect}
-use Rattle.tr_picture.proofs.Pushed.{pushed_two}
-use Rattle.tr_picture.proofs.joins.push_leftward.Goals as goal
-
-pub returns : goal.returns
-returns c = pushed_two _ _ _ (line Joins (c.args.x + 124) 16 (c.args.y + 248) 16) (rect Joins (c.args.y + 248) 13 6 6) c.in_ok-push_line.ensures c.in_ok-push_rect.ensures

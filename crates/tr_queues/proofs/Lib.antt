@@ -1,0 +1,10 @@
+pub mod Entries
+pub mod Firsts
+pub mod Holding
+pub mod Keys
+pub mod LeftLines
+pub mod Orders
+pub mod Owns
+pub mod Retargeting
+pub mod Standing
+pub mod Written

@@ -1,0 +1,8 @@
+-- What waits with a number, and which instances a thread may take from a queue.
+use Rattle.std.specs.Prelude.{ℕ, ◌==◌, List, [], ◌∷◌, Option, Some, None, if◌then◌else◌}
+use Rattle.tr_model.specs.declared.rows.Waiting.{Waiting}
+
+-- the first that waits with the number
+abbrev pub waiting_in : List Waiting → ℕ → Option Waiting
+waiting_in [] n = None
+waiting_in (q ∷ qs) n = if q.instance.n == n then Some q else waiting_in qs n

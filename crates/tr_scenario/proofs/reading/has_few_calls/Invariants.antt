@@ -1,6 +1,0 @@
-use Rattle.std.proofs.Common.{◌≡◌, ◌+◌, drop}
-use Rattle.tr_scenario.specs.Workers.{calls_of}
-use Rattle.tr_scenario.proofs.reading.has_few_calls.Given as goal
-
-abbrev pub invariant-loop-script : goal.invariant-loop-script
-invariant-loop-script l = l.left + calls_of l.scripts ≡ 100000 + calls_of (drop l.script-index l.scripts)

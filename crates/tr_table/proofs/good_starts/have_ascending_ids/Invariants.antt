@@ -1,7 +1,0 @@
-use Rattle.std.proofs.Common.{◌≡◌, drop}
-use Rattle.tr_table.specs.Private.{last_ascending}
-use Rattle.tr_table.specs.Starts.{ids_started}
-use Rattle.tr_table.proofs.good_starts.have_ascending_ids.Given as goal
-
-abbrev pub invariant-loop-group : goal.invariant-loop-group
-invariant-loop-group l = last_ascending l.last (ids_started (drop l.group-index l.groups)) ≡ last_ascending 0 (ids_started l.groups)

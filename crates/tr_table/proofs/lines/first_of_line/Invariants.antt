@@ -1,8 +1,0 @@
-use Rattle.std.proofs.Common.{◌≡◌, drop, filter}
-use Rattle.tr_table.specs.Lines.{first_number}
-use Rattle.tr_table.specs.Queues.{is_one}
-use Rattle.tr_table.specs.Slots.{standing}
-use Rattle.tr_table.proofs.lines.first_of_line.Given as goal
-
-abbrev pub invariant-loop-slot : goal.invariant-loop-slot
-invariant-loop-slot l = first_number (filter (is_one l.target l.signal) (standing (drop l.slot-index l.slots))) ≡ first_number (filter (is_one l.target l.signal) (standing l.slots))

@@ -1,6 +1,0 @@
-use Rattle.tr_table.specs.Changes.{queue_in}
-use Rattle.tr_table.specs.Slots.{standing}
-use Rattle.tr_table.proofs.pending.Pending.holds.Goals as goal
-
-pub returns : goal.returns
-returns c = c.takes_some.ensures (queue_in c.args.target (standing c.args.self.now.slots.items)) c.mask.ensures

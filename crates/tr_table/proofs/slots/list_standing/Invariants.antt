@@ -1,6 +1,0 @@
-use Rattle.std.proofs.Common.{◌≡◌, take}
-use Rattle.tr_table.specs.Slots.{standing}
-use Rattle.tr_table.proofs.slots.list_standing.Given as goal
-
-abbrev pub invariant-loop-slot : goal.invariant-loop-slot
-invariant-loop-slot l = l.list.items ≡ standing (take l.slot-index l.slots)

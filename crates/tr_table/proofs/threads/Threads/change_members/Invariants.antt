@@ -1,7 +1,0 @@
-use Rattle.std.proofs.Common.{◌≡◌, drop}
-use Rattle.tr_table.specs.Changes.{thread_changed_by}
-use Rattle.tr_table.proofs.ByIds.{changed_each}
-use Rattle.tr_table.proofs.threads.Threads.change_members.Given as goal
-
-abbrev pub invariant-loop-member : goal.invariant-loop-member
-invariant-loop-member l = changed_each (thread_changed_by l.change) (drop l.member-index l.member-items) l.self ≡ changed_each (thread_changed_by l.change) l.member-items l.fn.self

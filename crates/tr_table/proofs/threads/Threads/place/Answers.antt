@@ -1,8 +1,0 @@
-use Rattle.std.proofs.Common.{List, subst}
-use Rattle.tr_tracee.specs.declared.thread.Thread.{Thread}
-use Rattle.tr_table.specs.Private.{IsPlace}
-use Rattle.tr_table.proofs.Places.{is_place}
-use Rattle.tr_table.proofs.threads.Threads.place.Goals as goal
-
-pub returns-clause-place : goal.returns-clause-place
-returns-clause-place c = subst (λ (ts : List Thread). IsPlace c.args.id ts c.place.result) c.self.view_is (is_place c.args.id c.self.inside.list.items c.self.inside.index c.place.result c.self.invariant.rostered.indexed c.place.ensures.at)

@@ -1,0 +1,14 @@
+use Rattle.std.proofs.Common.{◌∙◌, ◌==◌, List, filter, not, ap, sym}
+use Rattle.std.specs.List.{list_any}
+use Rattle.tr_tracee.specs.declared.thread.Thread.{Thread}
+use Rattle.tr_tracee.specs.Lives.{is_live}
+use Rattle.tr_tracee.specs.Threads.{in_group}
+use Rattle.tr_threads.specs.Rosters.{RosterView}
+use Rattle.tr_threads.proofs.Counting.{any_counted}
+use Rattle.tr_threads.proofs.threads.Threads.has_live.Goals as goal
+
+pub returns : goal.returns
+returns c =
+    c.has_live.ensures
+    ∙ (ap (λ (r : RosterView). not (r.live == 0)) (c.self.invariant.rostered.told c.args.tgid)
+    ∙ (sym (any_counted (λ (t : Thread). is_live t.life) (filter (in_group c.args.tgid) c.self.inside.list.items)) ∙ ap (λ (ts : List Thread). list_any (λ (t : Thread). is_live t.life) (filter (in_group c.args.tgid) ts)) c.self.view_is))
