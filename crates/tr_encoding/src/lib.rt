@@ -1,4 +1,4 @@
-//! Calls as steps of a scenario: the JSON values that `tr_scenario` reads as them.
+//! Calls as steps of a scenario: the JSON values that `tr_reading` reads as them.
 #![tactic(auto)]
 
 mod calls;

@@ -1,4 +1,4 @@
--- Elements that were pushed one after the other, and drawings from their parts.
+-- What was pushed one after the other.
 use Rattle.std.proofs.Common.{◌≡◌, ◌<◌, ◌+◌, ◌∙◌, ℕ, List, [], ◌∷◌, ◌++◌, ap, sym, append_assoc, length, get_or, drop, drop-cons, add-one}
 use Rattle.tr_figures.specs.Elements.{Elements, all, both, printed}
 use Rattle.tr_figures.proofs.Celled.{pushed_last}

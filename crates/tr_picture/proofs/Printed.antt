@@ -1,4 +1,4 @@
--- The text of elements, from its parts; and that each tag is closed where it is opened.
+-- The text of a tag that was pushed.
 use Rattle.std.proofs.Common.{◌≡◌, ◌∙◌, ℕ, List, [], ◌∷◌, ◌++◌, ap, sym, append_assoc}
 use Rattle.tr_status.specs.Texts.{texts}
 use Rattle.tr_figures.specs.Elements.{Attribute, Close, Elements, Open, none, pieces, printed, tag, token_pieces, tokens}

@@ -1,4 +1,4 @@
--- Elements that were pushed one after the other, and drawings from their parts.
+-- Three and more that were pushed one after the other, and drawings from their parts.
 use Rattle.std.proofs.Common.{◌≡◌, ◌≤◌, ◌+◌, ◌∙◌, ℕ, zero, suc, List, [], ◌∷◌, ◌++◌, ap, refl, append_assoc, length, take, arith}
 use Rattle.tr_figures.specs.Elements.{Elements, all, printed}
 use Rattle.tr_figures.proofs.Printed.{pushed_both}

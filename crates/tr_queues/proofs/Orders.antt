@@ -1,4 +1,4 @@
--- Numbers of what waits, with one less or one more.
+-- One more comes last, above all that wait.
 use Rattle.std.proofs.Common.{List, [], ◌∷◌, ◌++◌}
 use Rattle.tr_model.specs.declared.rows.Waiting.{Waiting}
 use Rattle.tr_model.specs.Journals.{IsSorted}

@@ -1,4 +1,4 @@
--- What happens to the record of one group, and what is flushed.
+-- Which instances are picked, of all that wait.
 use Rattle.std.specs.Prelude.{ℕ, List, map, filter, Bool, ◌&&◌, ◌==◌}
 use Rattle.std.specs.List.{list_any}
 use Rattle.tr_pending.specs.declared.instance.Instance.{Instance}

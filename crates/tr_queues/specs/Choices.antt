@@ -1,4 +1,4 @@
--- What waits with a number, and which instances a thread may take from a queue.
+-- What waits with a number.
 use Rattle.std.specs.Prelude.{ℕ, ◌==◌, List, [], ◌∷◌, Option, Some, None, if◌then◌else◌}
 use Rattle.tr_model.specs.declared.rows.Waiting.{Waiting}
 

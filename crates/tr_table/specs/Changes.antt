@@ -1,4 +1,4 @@
--- What happens to the record of one group, and what is flushed.
+-- What happens to the record of one group, and which changes leave a thread what it holds.
 use Rattle.std.specs.Prelude.{ℕ, List, [], map, Bool, true, false}
 use Rattle.tr_tracee.specs.declared.thread.Thread.{Thread}
 use Rattle.tr_model.specs.declared.rows.Group.{Group}

@@ -1,4 +1,4 @@
--- What waits with a number, and which instances a thread may take from a queue.
+-- Which instances a thread may take from a queue.
 use Rattle.std.specs.Prelude.{ℕ, ◌==◌, ◌&&◌, List, Bool, not}
 use Rattle.std.specs.List.{list_all}
 use Rattle.tr_sigset.specs.declared.sets.SigSet.{SigSet}

@@ -1,4 +1,4 @@
--- The queue of one target, among all that waits.
+-- What waits after an instance was put into a queue.
 use Rattle.std.specs.Prelude.{List, [], ◌∷◌, ◌++◌, if◌then◌else◌}
 use Rattle.tr_pending.specs.declared.instance.Instance.{Instance}
 use Rattle.tr_pending.specs.Waiting.{merges}

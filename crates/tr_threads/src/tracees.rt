@@ -8,7 +8,8 @@ ghost use Rattle.tr_threads.specs.Waits.{is_report, is_untraced_death};
 use crate::threads::Threads;
 use tr_tracee::{Report, Thread};
 
-// What a wait asks of the threads: whom an actor traces, which of these has a report, and whether a death is the starter's to be told.
+// What a wait asks of the threads: whom an actor traces, which of these has a report, and whether a death is the starter's
+// to be told.
 
 impl Threads {
     /// Says whether the actor traces a thread.
