@@ -1,6 +1,6 @@
 -- What private contracts see of what a kernel keeps beside its table: what is written down, and for how much more there is
 -- room.
-use Rattle.std.specs.Prelude.{◌≡◌, ℕ, ◌+◌, ◌*◌, ◌^◌, ◌<◌, ◌≤◌, ◌==◌, nat_le, zero, suc, Bool, true, false, not, ◌&&◌, List, [], ◌∷◌, length, get_or, if◌then◌else◌}
+use Rattle.std.specs.Prelude.{◌≡◌, ℕ, ◌+◌, ◌*◌, ◌^◌, ◌<◌, ◌≤◌, ◌==◌, nat_le, zero, suc, Bool, true, false, not, ◌&&◌, List, [], ◌∷◌, length, get_or, if◌then◌else◌, Option, None, Some}
 use Rattle.tr_model.specs.Choices.{Choice}
 use Rattle.tr_model.specs.Entries.{Entry}
 use Rattle.tr_model.specs.declared.events.Event.{Event}
@@ -11,6 +11,9 @@ use Rattle.tr_model.specs.declared.replies.Reply.TheVariants as reply
 use Rattle.tr_model.specs.declared.rows.Target.{Target}
 use Rattle.tr_model.specs.declared.rows.Target.TheVariants as target
 use Rattle.tr_model.specs.Steps.{number}
+use Rattle.tr_kernel.specs.declared.note_list.FactKind.{FactKind}
+use Rattle.tr_kernel.specs.declared.note_list.FactKind.TheVariants as short
+use Rattle.tr_kernel.specs.declared.note_list.KeptFact.{KeptFact}
 use Rattle.tr_kernel.specs.declared.note_list.KeptNote.{KeptNote}
 use Rattle.tr_kernel.specs.declared.note_list.Kind.{Kind}
 use Rattle.tr_kernel.specs.declared.note_list.Kind.TheVariants as kind
@@ -108,10 +111,41 @@ spread [] deaths place (suc n) = blank deaths ∷ spread [] deaths (suc place) n
 spread (k ∷ ks) deaths place (suc n) =
     if k.place == place then noted k ∷ spread ks k.deaths (suc place) n else blank deaths ∷ spread (k ∷ ks) deaths (suc place) n
 
+-- a take from this queue, before its id passed on, of which a fact is kept
+abbrev pub short_take : Target → KeptFact → EntryFact
+short_take q f = Take (record { number = f.second; signal = signal_of f.signal; queue = q; transfers = 0 })
+
+-- what an entry is to the laws, of which a fact is kept
+abbrev pub short_fact_by : FactKind → KeptFact → EntryFact
+short_fact_by short.Stop f = Stop (record { thread = f.id; group = f.second })
+short_fact_by short.TakeForThread f = short_take (target.Thread f.id) f
+short_fact_by short.TakeForGroup f = short_take (target.Group f.id) f
+
+abbrev pub short_fact : KeptFact → EntryFact
+short_fact f = short_fact_by f.kind f
+
+-- the note with the fact that is kept, if one is
+abbrev pub with_fact : Option KeptFact → Note → Note
+with_fact None n = n
+with_fact (Some f) n = record n { fact = short_fact f }
+
+-- notes of entries from a place on, each with the fact that is kept of its entry, if one is
+abbrev pub overlaid : List KeptFact → ℕ → List Note → List Note
+overlaid [] place ns = ns
+overlaid (f ∷ fs) place [] = []
+overlaid (f ∷ fs) place (n ∷ ns) =
+    if f.place == place then with_fact (Some f) n ∷ overlaid fs (suc place) ns else n ∷ overlaid (f ∷ fs) (suc place) ns
+
+abbrev pub place_of_note : KeptNote → ℕ
+place_of_note k = k.place
+
+abbrev pub place_of_fact : KeptFact → ℕ
+place_of_fact f = f.place
+
 -- the places ascend, from the first to before the last of these
-abbrev pub AreWithin : ℕ → ℕ → List KeptNote → Type 0
-AreWithin from to [] = from ≤ to
-AreWithin from to (k ∷ ks) = (from ≤ k.place) × (k.place < to) × AreWithin (suc k.place) to ks
+abbrev pub AreWithin : {X : Type 0} → (X → ℕ) → ℕ → ℕ → List X → Type 0
+AreWithin place_of from to [] = from ≤ to
+AreWithin place_of from to (x ∷ xs) = (from ≤ place_of x) × (place_of x < to) × AreWithin place_of (suc (place_of x)) to xs
 
 -- it says no more than that so many deaths had begun
 abbrev pub is_blank : ℕ → Note → Bool

@@ -1,6 +1,6 @@
-ghost use Rattle.std.specs.Prelude.{◌≡◌, ◌↔◌, ◌++◌, ◌+◌, ◌-◌, ◌<◌, ◌≤◌, ◌∷◌, ◌^◌, [], IsTrue, None, OnOk, false, length, nat_le, slice_get, true};
-ghost use Rattle.tr_kernel.specs.Kept.{AreWithin, IsUpto, blank, is_blank, kept_fact, note_upto, noted, take_from};
-ghost use Rattle.tr_kernel.specs.declared.notes.EntryFact.TheVariants.{Nothing};
+ghost use Rattle.std.specs.Prelude.{◌≡◌, ◌↔◌, ◌++◌, ◌+◌, ◌-◌, ◌<◌, ◌≤◌, ◌==◌, ◌∷◌, ◌^◌, [], IfSome, IsTrue, None, OnOk, Some, false, find, length, nat_le, slice_get, true};
+ghost use Rattle.tr_kernel.specs.Kept.{AreWithin, IsUpto, blank, is_blank, kept_fact, note_upto, noted, place_of_fact, place_of_note, short_fact, short_take, take_from, with_fact};
+ghost use Rattle.tr_kernel.specs.declared.notes.EntryFact.TheVariants.{Nothing, Take};
 
 use crate::notes::{EntryFact, Note, Stopped, TakenFrom};
 use crate::replies::signal_of;
@@ -35,27 +35,53 @@ pub(crate) struct KeptNote {
     killed: bool,
 }
 
-/// A note for each entry. Those are kept that say more than the one before: most entries are nothing to the laws.
+/// Of which case a fact is that is kept without its note.
+#[derive(Clone, Copy)]
+enum FactKind {
+    Stop,
+    TakeForThread,
+    TakeForGroup,
+}
+
+/// What a take or a tracer's wait for a stop is to the laws, in 16 bytes. It stands for the whole note of an entry that
+/// delivered no KILL and began no death, if what a take took has a short number and the id of its queue had not passed on.
+#[derive(Clone, Copy)]
+pub(crate) struct KeptFact {
+    /// The place of its entry, from 0.
+    place: u32,
+    /// The thread that stopped, or the thread or the group of the queue.
+    id: u32,
+    /// The group of the thread that stopped, or the number of what a take took.
+    second: u32,
+    kind: FactKind,
+    signal: u8,
+}
+
+/// A note for each entry. Those are kept that say more than the one before: most entries are nothing to the laws. Of the
+/// frequent ones the fact alone is kept.
 #[derive(Drop)]
 pub(crate) struct NoteList {
     kept: Vec<KeptNote>,
+    facts: Vec<KeptFact>,
     len: usize,
     /// How many deaths had begun after the last note that is kept.
     deaths: u64,
 }
 
 impl Model for NoteList {
-    ghost use Rattle.std.specs.Prelude.{◌≡◌, ◌-◌, vec_capacity, vec_len};
-    ghost use Rattle.tr_kernel.specs.Kept.{AreWithin, NotesOfEntries, deaths_of, spread};
+    ghost use Rattle.std.specs.Prelude.{◌≡◌, ◌-◌, min, vec_capacity, vec_len};
+    ghost use Rattle.tr_kernel.specs.Kept.{AreWithin, NotesOfEntries, deaths_of, overlaid, place_of_fact, place_of_note, spread};
 
     ghost Value = { NotesOfEntries };
 
     ghost view = { λ l. record {
-      notes = spread l.kept.items 0 0 l.len;
-      room = vec_capacity l.kept - vec_len l.kept;
+      notes = overlaid l.facts.items 0 (spread l.kept.items 0 0 l.len);
+      room = min (vec_capacity l.kept - vec_len l.kept) (vec_capacity l.facts - vec_len l.facts);
     } };
 
-    ghost invariant = { λ l. AreWithin 0 l.len l.kept.items × (l.deaths ≡ deaths_of 0 l.kept.items) };
+    ghost invariant = { λ l. AreWithin place_of_note 0 l.len l.kept.items
+        × AreWithin place_of_fact 0 l.len l.facts.items
+        × (l.deaths ≡ deaths_of 0 l.kept.items) };
 }
 
 impl KeptNote {
@@ -149,6 +175,79 @@ impl KeptNote {
     }
 }
 
+impl KeptFact {
+    /// Keeps a note by its fact alone, where that leaves nothing out. So many deaths had begun before its entry.
+    #[inline(always)]
+    fn of_note(place: u32, note: &Note, deaths: u64) -> Option<KeptFact>
+        ensures place { IfSome result (λ f. f.place ≡ place) }
+        ensures note { IfSome result (λ f. with_fact (Some f) (blank deaths) ≡ note.now) }
+    {
+        if note.killed || note.deaths != deaths {
+            return None;
+        }
+        match note.fact {
+            EntryFact::Stop(Stopped { thread, group }) => Some(KeptFact {
+                place,
+                id: thread,
+                second: group,
+                kind: FactKind::Stop,
+                signal: 0,
+            }),
+            EntryFact::Take(taken) => KeptFact::of_take(place, &taken),
+            EntryFact::Nothing | EntryFact::Exec(_) => None,
+        }
+    }
+
+    /// Keeps a take of a short number from a queue whose id had not passed on.
+    #[inline(always)]
+    fn of_take(place: u32, taken: &TakenFrom) -> Option<KeptFact>
+        ensures place { IfSome result (λ f. f.place ≡ place) }
+        ensures fact { IfSome result (λ f. short_fact f ≡ Take taken.now) }
+    {
+        if taken.transfers != 0 {
+            return None;
+        }
+        let second = u32::try_from(taken.number).ok()?;
+        let (kind, id) = match taken.queue {
+            Target::Thread(id) => (FactKind::TakeForThread, id),
+            Target::Group(id) => (FactKind::TakeForGroup, id),
+        };
+        let signal = taken.signal.number();
+        Some(KeptFact {
+            place,
+            id,
+            second,
+            kind,
+            signal,
+        })
+    }
+
+    /// What the take that is kept is to the laws, if it took from this queue.
+    fn take_from(&self, queue: Target) -> EntryFact
+        ensures { result ≡ short_take queue self.now }
+    {
+        EntryFact::Take(TakenFrom {
+            number: self.second as u64,
+            signal: signal_of(self.signal),
+            queue,
+            transfers: 0,
+        })
+    }
+
+    fn fact(&self) -> EntryFact
+        ensures { result ≡ short_fact self.now }
+    {
+        match self.kind {
+            FactKind::Stop => EntryFact::Stop(Stopped {
+                thread: self.id,
+                group: self.second,
+            }),
+            FactKind::TakeForThread => self.take_from(Target::Thread(self.id)),
+            FactKind::TakeForGroup => self.take_from(Target::Group(self.id)),
+        }
+    }
+}
+
 fn blank(deaths: u64) -> Note
     ensures { result ≡ blank deaths }
 {
@@ -168,7 +267,7 @@ fn is_blank(note: &Note, deaths: u64) -> bool
 
 /// How many of these are of entries up to this place.
 fn count_upto(kept: &[KeptNote], len: usize, place: usize) -> usize
-    requires { AreWithin 0 len kept.now }
+    requires { AreWithin place_of_note 0 len kept.now }
     ensures { IsUpto place kept.now result }
 {
     kept.partition_point(
@@ -189,12 +288,37 @@ fn note_upto(kept: &[KeptNote], place: usize) -> Note
     }
 }
 
+/// The fact that is kept of the entry at a place, if one is.
+fn fact_at(facts: &[KeptFact], len: usize, place: usize) -> Option<KeptFact>
+    requires { AreWithin place_of_fact 0 len facts.now }
+    ensures { result ≡ find (λ f. f.place == place) facts.now }
+{
+    match facts.binary_search_by_key(&place, |fact| fact.place as usize) {
+        Ok(at) => Some(facts[at]),
+        Err(_) => None,
+    }
+}
+
+/// The note with the fact that is kept of its entry, if one is.
+fn with_fact(note: Note, fact: &Option<KeptFact>) -> Note
+    ensures { result ≡ with_fact fact.now note }
+{
+    match fact {
+        Some(fact) => Note {
+            fact: fact.fact(),
+            ..note
+        },
+        None => note,
+    }
+}
+
 impl NoteList {
     pub(crate) fn new(alloc: Global) -> NoteList
         ensures { result.notes ≡ [] }
     {
         NoteList {
             kept: Vec::new(alloc),
+            facts: Vec::new(alloc),
             len: 0,
             deaths: 0,
         }
@@ -205,7 +329,8 @@ impl NoteList {
         ensures notes { self.new.notes ≡ self.old.notes }
         ensures room { OnOk result (0 < self.new.room) }
     {
-        self.kept.reserve(1)
+        self.kept.reserve(1)?;
+        self.facts.reserve(1)
     }
 
     /// Whether there is room for one more note.
@@ -213,7 +338,7 @@ impl NoteList {
     pub(crate) fn has_room(&self) -> bool
         ensures { IsTrue result ↔ 0 < self.now.room }
     {
-        self.kept.len() < self.kept.capacity()
+        self.kept.len() < self.kept.capacity() && self.facts.len() < self.facts.capacity()
     }
 
     /// Appends the note of an entry that is nothing to the laws, after so many deaths, where as many had begun after the
@@ -238,9 +363,11 @@ impl NoteList {
         requires few { length self.old.notes < 2 ^ 32 }
         ensures { self.new.notes ≡ self.old.notes ++ note.now ∷ [] }
     {
-        if !is_blank(note, self.deaths) {
-            self.kept
-                .push_reserved(KeptNote::new(self.len as u32, note));
+        let place = self.len as u32;
+        if let Some(fact) = KeptFact::of_note(place, note, self.deaths) {
+            self.facts.push_reserved(fact);
+        } else if !is_blank(note, self.deaths) {
+            self.kept.push_reserved(KeptNote::new(place, note));
             self.deaths = note.deaths;
         }
         self.len += 1;
@@ -254,7 +381,8 @@ impl NoteList {
             return None;
         }
         let upto = count_upto(&self.kept, self.len, place);
-        Some(note_upto(&self.kept[..upto], place))
+        let note = note_upto(&self.kept[..upto], place);
+        Some(with_fact(note, &fact_at(&self.facts, self.len, place)))
     }
 
     /// The note of the entry at a position, from 1.
