@@ -1,7 +1,8 @@
 -- The reply of an entry, by what is kept of it.
-use Rattle.std.proofs.Common.{◌≡◌, ℕ, zero, suc, List, [], ◌∷◌, ◌++◌, length, filter, Some, None, Option, true, true≢false, refl, sym, ap, ◌∙◌, arith}
+use Rattle.std.proofs.Common.{◌≡◌, ℕ, zero, suc, ◌+◌, ◌*◌, ◌/◌, ◌<◌, ◌≤◌, List, [], ◌∷◌, ◌++◌, length, length-append, get_or, filter, subst, Some, None, Option, true, true≢false, refl, sym, ap, ◌∙◌, arith}
 use Rattle.std.specs.Prelude.{slice_get}
 use Rattle.std.proofs.lemmas.Bool.{eqb-true}
+use Rattle.std.proofs.lemmas.Option.{none-some, same_Some}
 use Rattle.tr_wait.specs.declared.waits.WaitFlags.{WaitFlags}
 use Rattle.tr_wait.specs.declared.waits.Which.{Which}
 use Rattle.tr_pending.specs.declared.instance.Instance.{Instance}
@@ -21,31 +22,154 @@ use Rattle.tr_model.specs.Waits.{asked_tracees, has_report, ready_thread}
 use Rattle.tr_model.proofs.Consumed.{death_found, found_in, found_note}
 use Rattle.tr_model.proofs.Kept.{found_id}
 use Rattle.tr_model.proofs.OneFate.{number_found}
-use Rattle.tr_kernel.specs.declared.replies.KeptReply.{KeptReply}
-use Rattle.tr_kernel.specs.Kept.{IsToldBy, all_told, taker, told}
+use Rattle.tr_kernel.specs.declared.replies.BriefReply.{BriefReply}
+use Rattle.tr_kernel.specs.declared.replies.BriefReply.TheVariants as brief
+use Rattle.tr_kernel.specs.declared.replies.Mark.{Mark}
+use Rattle.tr_kernel.specs.declared.replies.WholeReply.{WholeReply}
+use Rattle.tr_kernel.specs.Kept.{IsHeld, IsMore, IsToldBy, taker, told, told_by}
+use Rattle.tr_kernel.specs.KeptReplies.{AreHeld, all_told, mark_of}
 
-pub told_push : (es : List Entry) (ks : List KeptReply) (e : Entry) (k : KeptReply) → length es ≡ length ks → all_told (es ++ e ∷ []) (ks ++ k ∷ []) ≡ all_told es ks ++ told e k ∷ []
-told_push [] [] e k h = refl
-told_push [] (x ∷ ks) e k h = absurd (omega (arith, h))
-told_push (y ∷ es) [] e k h = absurd (omega (arith, h))
-told_push (y ∷ es) (x ∷ ks) e k h = ap (λ rs. told y x ∷ rs) (told_push es ks e k (omega (arith, h)))
+-- Where one more is kept whole
 
--- the reply at a place, by the entry and what is kept there
-abbrev pub told_of : Option Entry → Option KeptReply → Option Reply
-told_of None k = None
-told_of (Some e) None = None
-told_of (Some e) (Some k) = Some (told e k)
+same_told : (e : Entry) (m : Mark) (ws vs : List WholeReply) (b : BriefReply) → IsMore ws vs → IsHeld m ws b → told e m vs b ≡ told e m ws b
+same_told e m ws vs brief.Done g h = refl
+same_told e m ws vs brief.Exists g h = refl
+same_told e m ws vs brief.Nothing g h = refl
+same_told e m ws vs (brief.Pending n) g h = refl
+same_told e m ws vs (brief.Merged n) g h = refl
+same_told e m ws vs (brief.Flushed n) g h = refl
+same_told e m ws vs (brief.Whole n) g h = ap (λ o. told_by e o) (g.same (m.whole + n) h)
 
-pub told_at : (es : List Entry) (ks : List KeptReply) (i : ℕ) → slice_get (all_told es ks) i ≡ told_of (slice_get es i) (slice_get ks i)
-told_at [] ks i = refl
-told_at (e ∷ es) [] zero = refl
-told_at (e ∷ es) [] (suc i) = none (slice_get es i)
+same_held : (m : Mark) (ws vs : List WholeReply) (b : BriefReply) → IsMore ws vs → IsHeld m ws b → IsHeld m vs b
+same_held m ws vs brief.Done g h = tt
+same_held m ws vs brief.Exists g h = tt
+same_held m ws vs brief.Nothing g h = tt
+same_held m ws vs (brief.Pending n) g h = h
+same_held m ws vs (brief.Merged n) g h = h
+same_held m ws vs (brief.Flushed n) g h = h
+same_held m ws vs (brief.Whole n) g h = omega (arith, h, g.least)
+
+more_told : (ms : List Mark) (last : Mark) (ws vs : List WholeReply) (p : ℕ) (es : List Entry) (bs : List BriefReply) → IsMore ws vs → AreHeld ms last ws p bs
+    → all_told ms last vs p es bs ≡ all_told ms last ws p es bs
+more_told ms last ws vs p [] bs g h = refl
+more_told ms last ws vs p (e ∷ es) [] g h = refl
+more_told ms last ws vs p (e ∷ es) (b ∷ bs) g h =
+    ap (λ r. r ∷ all_told ms last vs (suc p) es bs) (same_told e (mark_of ms last p) ws vs b g h.0)
+    ∙ ap (λ rs. told e (mark_of ms last p) ws b ∷ rs) (more_told ms last ws vs (suc p) es bs g h.1)
+
+more_held : (ms : List Mark) (last : Mark) (ws vs : List WholeReply) (p : ℕ) (bs : List BriefReply) → IsMore ws vs → AreHeld ms last ws p bs → AreHeld ms last vs p bs
+more_held ms last ws vs p [] g h = tt
+more_held ms last ws vs p (b ∷ bs) g h = (same_held (mark_of ms last p) ws vs b g h.0, more_held ms last ws vs (suc p) bs g h.1)
+
+-- Where one entry more is told
+
+append_told : (ms : List Mark) (last : Mark) (ws : List WholeReply) (p : ℕ) (es : List Entry) (bs : List BriefReply) (e : Entry) (b : BriefReply) → length es ≡ length bs
+    → all_told ms last ws p (es ++ e ∷ []) (bs ++ b ∷ []) ≡ all_told ms last ws p es bs ++ told e (mark_of ms last (p + length bs)) ws b ∷ []
+append_told ms last ws p [] [] e b h = ap (λ q. told e (mark_of ms last q) ws b ∷ []) (omega arith)
+append_told ms last ws p [] (c ∷ bs) e b h = absurd (omega (arith, h))
+append_told ms last ws p (d ∷ es) [] e b h = absurd (omega (arith, h))
+append_told ms last ws p (d ∷ es) (c ∷ bs) e b h =
+    ap (λ rs. told d (mark_of ms last p) ws c ∷ rs)
+    (append_told ms last ws (suc p) es bs e b (omega (arith, h))
+    ∙ ap (λ q. all_told ms last ws (suc p) es bs ++ told e (mark_of ms last q) ws b ∷ []) (omega arith))
+
+append_held : (ms : List Mark) (last : Mark) (ws : List WholeReply) (p : ℕ) (bs : List BriefReply) (b : BriefReply) → AreHeld ms last ws p bs
+    → IsHeld (mark_of ms last (p + length bs)) ws b → AreHeld ms last ws p (bs ++ b ∷ [])
+append_held ms last ws p [] b h i = (subst (λ q. IsHeld (mark_of ms last q) ws b) (omega arith) i, tt)
+append_held ms last ws p (c ∷ bs) b h i = (h.0, append_held ms last ws (suc p) bs b h.1 (subst (λ q. IsHeld (mark_of ms last q) ws b) (omega arith) i))
+
+-- Where a block is full
+
+next_mark : (ms : List Mark) (last next : Mark) (i : ℕ) → i ≤ length ms → get_or (ms ++ last ∷ []) i next ≡ get_or ms i last
+next_mark [] last next zero h = refl
+next_mark [] last next (suc i) h = absurd (omega (arith, h))
+next_mark (m ∷ ms) last next zero h = refl
+next_mark (m ∷ ms) last next (suc i) h = next_mark ms last next i (omega (arith, h))
+
+marked_told : (ms : List Mark) (last next : Mark) (ws : List WholeReply) (p : ℕ) (es : List Entry) (bs : List BriefReply) → p + length bs ≤ 64 * length ms + 64
+    → all_told (ms ++ last ∷ []) next ws p es bs ≡ all_told ms last ws p es bs
+marked_told ms last next ws p [] bs h = refl
+marked_told ms last next ws p (e ∷ es) [] h = refl
+marked_told ms last next ws p (e ∷ es) (b ∷ bs) h =
+    ap (λ m. told e m ws b ∷ all_told (ms ++ last ∷ []) next ws (suc p) es bs) (next_mark ms last next (p / 64) (omega (arith, h)))
+    ∙ ap (λ rs. told e (mark_of ms last p) ws b ∷ rs) (marked_told ms last next ws (suc p) es bs (omega (arith, h)))
+
+marked_held : (ms : List Mark) (last next : Mark) (ws : List WholeReply) (p : ℕ) (bs : List BriefReply) → p + length bs ≤ 64 * length ms + 64
+    → AreHeld ms last ws p bs → AreHeld (ms ++ last ∷ []) next ws p bs
+marked_held ms last next ws p [] h i = tt
+marked_held ms last next ws p (b ∷ bs) h i =
+    (subst (λ m. IsHeld m ws b) (sym (next_mark ms last next (p / 64) (omega (arith, h)))) i.0, marked_held ms last next ws (suc p) bs (omega (arith, h)) i.1)
+
+-- One entry more
+
+last_mark : (ms : List Mark) (last : Mark) (n : ℕ) → 64 * length ms ≤ n → mark_of ms last n ≡ last
+last_mark ms last n h = behind ms (n / 64) (omega (arith, h))
   where
-    none : (o : Option Entry) → None ≡ told_of o None
+    behind : (ms : List Mark) (i : ℕ) → length ms ≤ i → get_or ms i last ≡ last
+    behind [] i h = refl
+    behind (m ∷ ms) zero h = absurd (omega (arith, h))
+    behind (m ∷ ms) (suc i) h = behind ms i (omega (arith, h))
+
+pub pushed_told : (ms : List Mark) (last : Mark) (ws vs : List WholeReply) (es : List Entry) (bs : List BriefReply) (e : Entry) (b : BriefReply) (r : Reply)
+    → length es ≡ length bs → 64 * length ms ≤ length bs → IsMore ws vs → AreHeld ms last ws 0 bs → told e last vs b ≡ r
+    → all_told ms last vs 0 (es ++ e ∷ []) (bs ++ b ∷ []) ≡ all_told ms last ws 0 es bs ++ r ∷ []
+pushed_told ms last ws vs es bs e b r l f g h t =
+    append_told ms last vs 0 es bs e b l
+    ∙ (ap (λ rs. rs ++ told e (mark_of ms last (0 + length bs)) vs b ∷ []) (more_told ms last ws vs 0 es bs g h)
+    ∙ ap (λ x. all_told ms last ws 0 es bs ++ x ∷ []) (ap (λ m. told e m vs b) (last_mark ms last (0 + length bs) (omega (arith, f))) ∙ t))
+
+pub pushed_held : (ms : List Mark) (last : Mark) (ws vs : List WholeReply) (bs : List BriefReply) (b : BriefReply)
+    → 64 * length ms ≤ length bs → IsMore ws vs → AreHeld ms last ws 0 bs → IsHeld last vs b → AreHeld ms last vs 0 (bs ++ b ∷ [])
+pushed_held ms last ws vs bs b f g h i =
+    append_held ms last vs 0 bs b (more_held ms last ws vs 0 bs g h) (subst (λ m. IsHeld m vs b) (sym (last_mark ms last (0 + length bs) (omega (arith, f)))) i)
+
+pub full_told : (ms : List Mark) (last next : Mark) (ws vs : List WholeReply) (es : List Entry) (bs : List BriefReply) (e : Entry) (b : BriefReply) (r : Reply)
+    → length es ≡ length bs → 64 * length ms ≤ length bs → length bs < 64 * length ms + 64 → IsMore ws vs → AreHeld ms last ws 0 bs → told e last vs b ≡ r
+    → all_told (ms ++ last ∷ []) next vs 0 (es ++ e ∷ []) (bs ++ b ∷ []) ≡ all_told ms last ws 0 es bs ++ r ∷ []
+full_told ms last next ws vs es bs e b r l f o g h t =
+    marked_told ms last next vs 0 (es ++ e ∷ []) (bs ++ b ∷ []) (omega (arith, o, length-append bs (b ∷ []))) ∙ pushed_told ms last ws vs es bs e b r l f g h t
+
+pub full_held : (ms : List Mark) (last next : Mark) (ws vs : List WholeReply) (bs : List BriefReply) (b : BriefReply)
+    → 64 * length ms ≤ length bs → length bs < 64 * length ms + 64 → IsMore ws vs → AreHeld ms last ws 0 bs → IsHeld last vs b
+    → AreHeld (ms ++ last ∷ []) next vs 0 (bs ++ b ∷ [])
+full_held ms last next ws vs bs b f o g h i =
+    marked_held ms last next vs 0 (bs ++ b ∷ []) (omega (arith, o, length-append bs (b ∷ []))) (pushed_held ms last ws vs bs b f g h i)
+
+-- The reply at a place
+
+-- by the entry there, and by what is kept there
+abbrev pub told_of : Option Entry → Option BriefReply → Mark → List WholeReply → Option Reply
+told_of None b m ws = None
+told_of (Some e) None m ws = None
+told_of (Some e) (Some b) m ws = Some (told e m ws b)
+
+told_from : (ms : List Mark) (last : Mark) (ws : List WholeReply) (p : ℕ) (es : List Entry) (bs : List BriefReply) (i : ℕ)
+    → slice_get (all_told ms last ws p es bs) i ≡ told_of (slice_get es i) (slice_get bs i) (mark_of ms last (p + i)) ws
+told_from ms last ws p [] bs i = refl
+told_from ms last ws p (e ∷ es) [] zero = refl
+told_from ms last ws p (e ∷ es) [] (suc i) = none (slice_get es i)
+  where
+    none : (o : Option Entry) → None ≡ told_of o None (mark_of ms last (p + suc i)) ws
     none None = refl
     none (Some x) = refl
-told_at (e ∷ es) (k ∷ ks) zero = refl
-told_at (e ∷ es) (k ∷ ks) (suc i) = told_at es ks i
+told_from ms last ws p (e ∷ es) (b ∷ bs) zero = ap (λ q. Some (told e (mark_of ms last q) ws b)) (omega arith)
+told_from ms last ws p (e ∷ es) (b ∷ bs) (suc i) =
+    told_from ms last ws (suc p) es bs i ∙ ap (λ q. told_of (slice_get es i) (slice_get bs i) (mark_of ms last q) ws) (omega arith)
+
+pub told_at : (ms : List Mark) (last : Mark) (ws : List WholeReply) (es : List Entry) (bs : List BriefReply) (i : ℕ)
+    → slice_get (all_told ms last ws 0 es bs) i ≡ told_of (slice_get es i) (slice_get bs i) (mark_of ms last i) ws
+told_at ms last ws es bs i = told_from ms last ws 0 es bs i ∙ ap (λ q. told_of (slice_get es i) (slice_get bs i) (mark_of ms last q) ws) (omega arith)
+
+held_from : (ms : List Mark) (last : Mark) (ws : List WholeReply) (p : ℕ) (bs : List BriefReply) (i : ℕ) (b : BriefReply) → AreHeld ms last ws p bs
+    → slice_get bs i ≡ Some b → IsHeld (mark_of ms last (p + i)) ws b
+held_from ms last ws p [] i b h e = absurd (none-some b e)
+held_from ms last ws p (c ∷ bs) zero b h e =
+    subst (λ q. IsHeld (mark_of ms last q) ws b) (omega arith) (subst (λ x. IsHeld (mark_of ms last p) ws x) (same_Some c b e) h.0)
+held_from ms last ws p (c ∷ bs) (suc i) b h e = subst (λ q. IsHeld (mark_of ms last q) ws b) (omega arith) (held_from ms last ws (suc p) bs i b h.1 e)
+
+pub held_at : (ms : List Mark) (last : Mark) (ws : List WholeReply) (bs : List BriefReply) (i : ℕ) (b : BriefReply) → AreHeld ms last ws 0 bs
+    → slice_get bs i ≡ Some b → IsHeld (mark_of ms last i) ws b
+held_at ms last ws bs i b h e = subst (λ q. IsHeld (mark_of ms last q) ws b) (omega arith) (held_from ms last ws 0 bs i b h e)
 
 -- The entry tells what isn't kept
 

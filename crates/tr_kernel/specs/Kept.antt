@@ -1,11 +1,12 @@
 -- What private contracts see of what a kernel keeps beside its table: what is written down, and for how much more there is
 -- room.
-use Rattle.std.specs.Prelude.{◌≡◌, ℕ, ◌+◌, ◌*◌, ◌^◌, ◌<◌, ◌≤◌, ◌==◌, nat_le, zero, suc, Bool, true, false, not, ◌&&◌, List, [], ◌∷◌, length, get_or, if◌then◌else◌, Option, None, Some}
+use Rattle.std.specs.Prelude.{◌≡◌, ℕ, ◌+◌, ◌*◌, ◌^◌, ◌<◌, ◌≤◌, ◌==◌, nat_le, zero, suc, Bool, true, false, not, ◌&&◌, List, [], ◌∷◌, length, get_or, slice_get, Option, Some, None, if◌then◌else◌}
 use Rattle.tr_model.specs.Choices.{Choice}
 use Rattle.tr_model.specs.Entries.{Entry}
 use Rattle.tr_model.specs.declared.events.Event.{Event}
 use Rattle.tr_model.specs.declared.events.Event.TheVariants as event
 use Rattle.tr_model.specs.declared.fates.Fate.{Fate}
+use Rattle.tr_model.specs.declared.fates.Fate.TheVariants as fate
 use Rattle.tr_model.specs.declared.replies.Reply.{Reply}
 use Rattle.tr_model.specs.declared.replies.Reply.TheVariants as reply
 use Rattle.tr_model.specs.declared.rows.Target.{Target}
@@ -20,8 +21,11 @@ use Rattle.tr_kernel.specs.declared.note_list.Kind.TheVariants as kind
 use Rattle.tr_kernel.specs.declared.notes.EntryFact.{EntryFact}
 use Rattle.tr_kernel.specs.declared.notes.EntryFact.TheVariants.{Exec, Nothing, Stop, Take}
 use Rattle.tr_kernel.specs.declared.notes.Note.{Note}
-use Rattle.tr_kernel.specs.declared.replies.KeptReply.{KeptReply}
-use Rattle.tr_kernel.specs.declared.replies.KeptReply.TheVariants as kept
+use Rattle.tr_kernel.specs.declared.replies.BriefReply.{BriefReply}
+use Rattle.tr_kernel.specs.declared.replies.BriefReply.TheVariants as brief
+use Rattle.tr_kernel.specs.declared.replies.Mark.{Mark}
+use Rattle.tr_kernel.specs.declared.replies.WholeReply.{WholeReply}
+use Rattle.tr_kernel.specs.declared.replies.WholeReply.TheVariants as whole
 
 -- Fates
 
@@ -50,23 +54,47 @@ taker e = taker_of e.event e.choice
 abbrev pub signal_of : ℕ → ℕ
 signal_of n = if nat_le 1 n && nat_le n 64 then n else 9
 
--- the reply of an entry, of which this is kept
-abbrev pub told : Entry → KeptReply → Reply
-told e kept.Done = reply.Done
-told e kept.Exists = reply.Exists
-told e kept.Nothing = reply.Nothing
-told e (kept.Sent fate high low) = reply.Sent fate (high * 2 ^ 32 + low)
-told e (kept.Took did sig info) = reply.Took did (taker e) (record { n = number e.choice.instance; sig = signal_of sig; info = info })
-told e (kept.Cloned id) = reply.Cloned id
-told e (kept.Waited id word) = reply.Waited id word (number e.choice.report)
-told e (kept.Message value) = reply.Message value
-told e (kept.Signal sig info) = reply.Signal (signal_of sig) info
+-- the reply of an entry, of which this is kept whole
+abbrev pub told_whole : Entry → WholeReply → Reply
+told_whole e (whole.Sent fate high low) = reply.Sent fate (high * 2 ^ 32 + low)
+told_whole e (whole.Took did sig info) = reply.Took did (taker e) (record { n = number e.choice.instance; sig = signal_of sig; info = info })
+told_whole e (whole.Cloned id) = reply.Cloned id
+told_whole e (whole.Waited id word) = reply.Waited id word (number e.choice.report)
+told_whole e (whole.Message value) = reply.Message value
+told_whole e (whole.Signal sig info) = reply.Signal (signal_of sig) info
 
--- of each entry
-abbrev pub all_told : List Entry → List KeptReply → List Reply
-all_told [] ks = []
-all_told (e ∷ es) [] = []
-all_told (e ∷ es) (k ∷ ks) = told e k ∷ all_told es ks
+-- of which one is kept whole, if there is one
+abbrev pub told_by : Entry → Option WholeReply → Reply
+told_by e None = reply.Done
+told_by e (Some w) = told_whole e w
+
+-- the reply of an entry, of which this is kept in brief after a mark, beside those that are kept whole
+abbrev pub told : Entry → Mark → List WholeReply → BriefReply → Reply
+told e m ws brief.Done = reply.Done
+told e m ws brief.Exists = reply.Exists
+told e m ws brief.Nothing = reply.Nothing
+told e m ws (brief.Pending more) = reply.Sent fate.Pending (m.sent + more)
+told e m ws (brief.Merged more) = reply.Sent fate.Merged (m.sent + more)
+told e m ws (brief.Flushed more) = reply.Sent fate.Flushed (m.sent + more)
+told e m ws (brief.Whole more) = told_by e (slice_get ws (m.whole + more))
+
+-- there is what it names: a number, or a reply among those that are kept whole
+abbrev pub IsHeld : Mark → List WholeReply → BriefReply → Type 0
+IsHeld m ws (brief.Pending more) = m.sent + more < 2 ^ 64
+IsHeld m ws (brief.Merged more) = m.sent + more < 2 ^ 64
+IsHeld m ws (brief.Flushed more) = m.sent + more < 2 ^ 64
+IsHeld m ws (brief.Whole more) = m.whole + more < length ws
+IsHeld m ws _ = Unit {0}
+
+-- fewer replies than a block has entries were kept whole since the mark, where so many are
+abbrev pub IsSince : Mark → ℕ → Type 0
+IsSince m n = (m.whole ≤ n) × (n < m.whole + 64)
+
+-- the same replies are kept whole, and at most one more
+pub record IsMore (ws vs : List WholeReply) : Type 0 where
+  pub least : length ws ≤ length vs
+  pub most : length vs ≤ length ws + 1
+  pub same : (i : ℕ) → i < length ws → slice_get vs i ≡ slice_get ws i
 
 -- the entry tells which thread took which number, and which report was consumed
 abbrev pub IsToldBy : Entry → Reply → Type 0

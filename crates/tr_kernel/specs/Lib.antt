@@ -5,6 +5,7 @@ pub mod Foreseen
 pub mod Heard
 pub mod Kept
 pub mod KeptNotes
+pub mod KeptReplies
 pub mod Laws
 pub mod Logs
 pub mod Notes

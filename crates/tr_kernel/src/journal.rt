@@ -1,40 +1,72 @@
 ghost use Rattle.std.specs.Prelude.{◌≡◌, ◌↔◌, ◌++◌, ◌+◌, ◌-◌, ◌<◌, ◌≤◌, ◌∷◌, [], IsTrue, None, OnOk, length, nat_le, slice_get, slice_index_or};
 ghost use Rattle.tr_kernel.specs.Kept.{IsToldBy};
+ghost use Rattle.tr_kernel.specs.KeptReplies.{last_sent, mark_of};
 
 use crate::lists::{append, at_position};
-use crate::replies::{KeptReply, kept};
+use crate::replies::{BLOCK, BriefReply, Mark, WholeReply, keep};
 use std::alloc::{AllocError, Global};
 use std::marker::Model;
 use tr_model::{Entry, Reply};
 
-/// The entries of a kernel, each with what is kept of its reply.
+/// For how many more replies there is room among those that are kept whole, where memory is asked for.
+const WHOLES: usize = 16;
+
+/// The entries of a kernel, and what is kept of their replies: two bytes of each, those whole that say more, and a mark for
+/// each block of entries that is full.
 pub(crate) struct Journal {
     entries: Vec<Entry>,
-    replies: Vec<KeptReply>,
+    briefs: Vec<BriefReply>,
+    wholes: Vec<WholeReply>,
+    marks: Vec<Mark>,
+    /// The mark of the block that isn't full.
+    mark: Mark,
+    /// The number of the last signal that was sent.
+    sent: u64,
+    /// For how many more entries there surely is room.
+    room: usize,
 }
 
 impl Drop for Journal {
     fn drop(self) {
         let Journal {
             entries: _,
-            replies: _,
+            briefs: _,
+            wholes: _,
+            marks: _,
+            mark: _,
+            sent: _,
+            room: _,
         } = self;
     }
 }
 
 impl Model for Journal {
-    ghost use Rattle.std.specs.Prelude.{◌≡◌, ◌-◌, length, min, vec_capacity, vec_len};
-    ghost use Rattle.tr_kernel.specs.Kept.{EntryList, all_told};
+    ghost use Rattle.tr_kernel.specs.Kept.{EntryList};
+    ghost use Rattle.tr_kernel.specs.KeptReplies.{HasReplies, kept_entries};
 
     ghost Value = { EntryList };
 
-    ghost view = { λ j. record {
-      entries = j.entries.items;
-      replies = all_told j.entries.items j.replies.items;
-      room = min (vec_capacity j.entries - vec_len j.entries) (vec_capacity j.replies - vec_len j.replies);
-    } };
+    ghost view = { kept_entries };
 
-    ghost invariant = { λ j. length j.entries.items ≡ length j.replies.items };
+    ghost invariant = { HasReplies };
+}
+
+/// The mark of the block of the entry at a place, from 0, by those of the full blocks and that of the one after them.
+fn mark_of(marks: &[Mark], last: Mark, place: usize) -> Mark
+    ensures { result ≡ mark_of marks.now last place }
+{
+    marks.get(place / BLOCK).copied().unwrap_or(last)
+}
+
+/// The number of the last signal that was sent, after a reply.
+#[inline(always)]
+fn last_sent(reply: &Reply, before: u64) -> u64
+    ensures { result ≡ last_sent reply.now before }
+{
+    match *reply {
+        Reply::Sent { n, .. } => n,
+        _ => before,
+    }
 }
 
 impl Journal {
@@ -44,7 +76,12 @@ impl Journal {
     {
         Journal {
             entries: Vec::new(alloc),
-            replies: Vec::new(alloc),
+            briefs: Vec::new(alloc),
+            wholes: Vec::new(alloc),
+            marks: Vec::new(alloc),
+            mark: Mark { sent: 0, whole: 0 },
+            sent: 0,
+            room: 0,
         }
     }
 
@@ -55,8 +92,17 @@ impl Journal {
         ensures replies { self.new.replies ≡ self.old.replies }
         ensures room { OnOk result (0 < self.new.room) }
     {
+        self.room = 0;
         self.entries.reserve(1)?;
-        self.replies.reserve(1)
+        self.briefs.reserve(1)?;
+        self.wholes.reserve(WHOLES)?;
+        self.marks.reserve(1)?;
+        let len = self.entries.len();
+        self.room = (self.entries.capacity() - len)
+            .min(self.briefs.capacity() - len)
+            .min(self.wholes.capacity() - self.wholes.len())
+            .min(BLOCK.saturating_mul(self.marks.capacity() - self.marks.len()));
+        Ok(())
     }
 
     /// Whether there is room for one more entry.
@@ -64,8 +110,7 @@ impl Journal {
     pub(crate) fn has_room(&self) -> bool
         ensures { IsTrue result ↔ 0 < self.now.room }
     {
-        let len = self.entries.len();
-        len < self.entries.capacity() && len < self.replies.capacity()
+        self.room > 0
     }
 
     pub(crate) fn entries(&self) -> &[Entry]
@@ -98,18 +143,19 @@ impl Journal {
     }
 
     /// The reply of the entry at a position, from 1.
-    #[tactic(auto, using(crate::proofs::Told::told_at))]
+    #[tactic(auto, using(crate::proofs::Told::told_at, crate::proofs::Told::held_at))]
     pub(crate) fn reply_at(&self, position: u64) -> Option<Reply>
         ensures none { position ≡ 0 → result ≡ None }
         ensures at { 1 ≤ position → result ≡ slice_get self.now.replies (position - 1) }
     {
         let entry = at_position(&self.entries, position)?;
-        let kept = at_position(&self.replies, position)?;
-        Some(kept.reply(&entry))
+        let brief = at_position(&self.briefs, position)?;
+        let mark = mark_of(&self.marks, self.mark, position as usize - 1);
+        Some(brief.reply(&entry, mark, &self.wholes))
     }
 
     /// Appends an entry with its reply.
-    #[tactic(auto, using(crate::proofs::Told::told_push))]
+    #[tactic(auto, using(crate::proofs::Told::pushed_told, crate::proofs::Told::pushed_held, crate::proofs::Told::full_told, crate::proofs::Told::full_held))]
     #[inline(always)]
     pub(crate) fn push(&mut self, entry: &Entry, reply: &Reply)
         requires room { 0 < self.old.room }
@@ -118,6 +164,16 @@ impl Journal {
         ensures replies { self.new.replies ≡ self.old.replies ++ reply.now ∷ [] }
     {
         append(&mut self.entries, entry);
-        append(&mut self.replies, &kept(reply));
+        let brief = keep(&mut self.wholes, self.mark, reply);
+        append(&mut self.briefs, &brief);
+        self.sent = last_sent(reply, self.sent);
+        self.room -= 1;
+        if self.entries.len() % BLOCK == 0 {
+            append(&mut self.marks, &self.mark);
+            self.mark = Mark {
+                sent: self.sent,
+                whole: self.wholes.len(),
+            };
+        }
     }
 }

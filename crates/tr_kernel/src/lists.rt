@@ -12,7 +12,8 @@ pub(crate) fn at_position<T: Copy>(items: &[T], position: u64) -> Option<T>
 /// Appends an item for which a place is reserved.
 pub(crate) fn append<T: Copy>(items: &mut Vec<T>, item: &T)
     requires { vec_len items.old < vec_capacity items.old }
-    ensures { items.new.items ≡ items.old.items ++ item.now ∷ [] }
+    ensures items { items.new.items ≡ items.old.items ++ item.now ∷ [] }
+    ensures capacity { vec_capacity items.new ≡ vec_capacity items.old }
 {
     items.push_reserved(*item);
 }
