@@ -52,7 +52,7 @@ pub(crate) enum WholeReply {
 fn taker(entry: &Entry) -> u32
     ensures { result ≡ taker entry.now }
 {
-    match *entry.event() {
+    match entry.event() {
         Event::Take { tid } => tid,
         _ => entry.choice().thread().unwrap_or(0),
     }

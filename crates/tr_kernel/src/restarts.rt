@@ -23,11 +23,11 @@ fn is_restart(stop: &Stopped, tracer: u32, entry: &Entry, fact: &EntryFact) -> b
     ensures { result ≡ is_restart stop.now tracer entry.now.actor entry.now.event fact.now }
 {
     match entry.event() {
-        Event::Cont { tid, .. } => *tid == stop.thread,
-        Event::Listen { tid } => *tid == stop.thread,
-        Event::Detach { tid, .. } => *tid == stop.thread,
+        Event::Cont { tid, .. } => tid == stop.thread,
+        Event::Listen { tid } => tid == stop.thread,
+        Event::Detach { tid, .. } => tid == stop.thread,
         Event::TracerExit => entry.actor() == tracer,
-        Event::Exec { tid } => *tid != stop.thread && is_exec_in(stop.group, fact),
+        Event::Exec { tid } => tid != stop.thread && is_exec_in(stop.group, fact),
         _ => false,
     }
 }

@@ -23,7 +23,3 @@ choice_in _ n id = no_choice
 -- the choice is one of what the event leaves open
 abbrev pub Fits : Event → Choice → Type 0
 Fits e c = choice_in e (packed_number c) (packed_id c) ≡ c
-
--- what the event doesn't use is 0
-abbrev pub IsKept : Event → ℕ → ℕ → Type 0
-IsKept e n id = (packed_number (choice_in e n id) ≡ n) × (packed_id (choice_in e n id) ≡ id)

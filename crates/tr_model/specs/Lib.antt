@@ -23,3 +23,4 @@ pub mod Takes
 pub mod Tracers
 pub mod Tracing
 pub mod Waits
+pub mod Packed

@@ -3,54 +3,49 @@ ghost use Rattle.tr_model.specs.Entries.{Fits};
 
 use crate::choices::Choice;
 use crate::events::Event;
+use crate::packed::PackedEvent;
 use crate::sameness::Same;
 use std::marker::Model;
 
 /// An entry of the journal, one step: who asked for it, what was asked for, and what was chosen where the model leaves it
-/// free. It is 32 bytes: the event tells what its choice is of.
+/// free. It is 24 bytes.
 #[derive(Clone, Copy, Debug)]
 pub struct Entry {
-    event: Event,
-    /// The number of the instance or the report that was chosen, else 0.
-    number: u64,
-    /// The thread or the new id that was chosen, else 0.
-    id: u32,
+    what: PackedEvent,
     actor: u32,
 }
 
 impl Model for Entry {
-    ghost use Rattle.tr_model.specs.Choices.{packed_id, packed_number};
-    ghost use Rattle.tr_model.specs.Entries.{IsKept, choice_in};
+    ghost use Rattle.std.specs.Prelude.{◌≡◌};
+    ghost use Rattle.tr_model.specs.Entries;
+    ghost use Rattle.tr_model.specs.Packed.{choice_of, event_of, pack};
 
-    ghost Value = { Rattle.tr_model.specs.Entries.Entry };
+    ghost Value = { Entries.Entry };
 
     ghost view = { λ e. record {
       actor = e.actor;
-      event = e.event;
-      choice = choice_in e.event e.number e.id;
+      event = event_of e.what;
+      choice = choice_of e.what;
     } };
 
-    ghost invariant = { λ e. IsKept e.event e.number e.id };
+    ghost invariant = { λ e. pack (event_of e.what) (choice_of e.what) ≡ e.what };
 
     ghost inverse = { λ e. record {
-      event = e.event;
-      number = packed_number e.choice;
-      id = packed_id e.choice;
+      what = pack e.event e.choice;
       actor = e.actor;
     } };
 }
 
 impl Entry {
     /// The entry of an actor's event, with a choice of what the event leaves open.
+    #[tactic(auto, using(crate::proofs::Packing::event_packed, crate::proofs::Packing::choice_packed))]
     #[inline(always)]
     pub fn new(actor: u32, event: Event, choice: Choice) -> Entry
         requires { Fits event choice }
         ensures { result ≡ record { actor = actor; event = event; choice = choice } }
     {
         Entry {
-            event,
-            number: choice.number(),
-            id: choice.id(),
+            what: PackedEvent::new(event, choice),
             actor,
         }
     }
@@ -63,31 +58,24 @@ impl Entry {
     }
 
     /// What was asked for.
-    pub fn event(&self) -> &Event
-        ensures { result.now ≡ self.now.event }
+    pub fn event(&self) -> Event
+        ensures { result ≡ self.now.event }
     {
-        &self.event
+        self.what.event()
     }
 
     /// What was chosen where the model leaves it free.
     pub fn choice(&self) -> Choice
         ensures { result ≡ self.now.choice }
     {
-        match self.event {
-            Event::Take { .. } => Choice::of_instance(self.number),
-            Event::TakeAny { .. } => Choice::of_thread(self.id, self.number),
-            Event::Wait { .. } | Event::StarterWait { .. } => Choice::of_report(self.number),
-            Event::CloneThread { .. } => Choice::of_new_id(self.id),
-            _ => Choice::NONE,
-        }
+        self.what.choice()
     }
 }
 
 impl Same for Entry {
     fn same(&self, other: &Entry) -> bool {
-        self.number == other.number
-            && self.id == other.id
+        self.event().same(&other.event())
+            && self.choice() == other.choice()
             && self.actor == other.actor
-            && self.event.same(&other.event)
     }
 }

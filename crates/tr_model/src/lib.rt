@@ -10,6 +10,7 @@ mod fates;
 mod journals;
 mod laws;
 mod limits;
+mod packed;
 mod raises;
 mod replies;
 mod rows;

@@ -297,7 +297,7 @@ fn is_entered(rt: &impl Abort, kernel: &Kernel, actor: u32, turn: &Turn) -> Resu
             .nth(position.saturating_sub(1) as usize);
         same(
             rt,
-            &entry.map(|e| (e.actor(), *e.event())),
+            &entry.map(|e| (e.actor(), e.event())),
             &Some((actor, turn.event)),
         );
         same(rt, &kernel.reply_at(*position), &Some(reply_of(told)?));

@@ -47,7 +47,7 @@ fn has_entered(rt: &impl Abort, kernel: &Kernel) {
     let entry = kernel.journal().first();
     same(
         rt,
-        &entry.map(|entry| (entry.actor(), *entry.event())),
+        &entry.map(|entry| (entry.actor(), entry.event())),
         &Some((10, KILL)),
     );
     same(rt, &kernel.journal().len(), &1);
