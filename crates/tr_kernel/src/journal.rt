@@ -2,14 +2,11 @@ ghost use Rattle.std.specs.Prelude.{◌≡◌, ◌↔◌, ◌++◌, ◌+◌, ◌
 ghost use Rattle.tr_kernel.specs.Kept.{IsToldBy};
 ghost use Rattle.tr_kernel.specs.KeptReplies.{last_sent, mark_of};
 
-use crate::lists::{append, at_position};
+use crate::lists::{append, at_position, grow};
 use crate::replies::{BLOCK, BriefReply, Mark, WholeReply, keep};
 use std::alloc::{AllocError, Global};
 use std::marker::Model;
 use tr_model::{Entry, Reply};
-
-/// For how many more replies there is room among those that are kept whole, where memory is asked for.
-const WHOLES: usize = 16;
 
 /// The entries of a kernel, and what is kept of their replies: two bytes of each, those whole that say more, and a mark for
 /// each block of entries that is full.
@@ -95,7 +92,7 @@ impl Journal {
         self.room = 0;
         self.entries.reserve(1)?;
         self.briefs.reserve(1)?;
-        self.wholes.reserve(WHOLES)?;
+        grow(&mut self.wholes)?;
         self.marks.reserve(1)?;
         let len = self.entries.len();
         self.room = (self.entries.capacity() - len)

@@ -2,6 +2,7 @@ ghost use Rattle.std.specs.Prelude.{◌≡◌, ◌↔◌, ◌++◌, ◌+◌, ◌
 ghost use Rattle.tr_kernel.specs.Kept.{AreWithin, IsUpto, blank, is_blank, kept_fact, note_upto, noted, place_of_fact, place_of_note, short_fact, short_take, take_from, with_fact};
 ghost use Rattle.tr_kernel.specs.declared.notes.EntryFact.TheVariants.{Nothing, Take};
 
+use crate::lists::grow;
 use crate::notes::{EntryFact, Note, Stopped, TakenFrom};
 use crate::replies::signal_of;
 use std::alloc::{AllocError, Global};
@@ -330,7 +331,7 @@ impl NoteList {
         ensures room { OnOk result (0 < self.new.room) }
     {
         self.kept.reserve(1)?;
-        self.facts.reserve(1)
+        grow(&mut self.facts)
     }
 
     /// Whether there is room for one more note.
