@@ -1,5 +1,5 @@
 -- What an entry is packed to, and read from.
-use Rattle.std.proofs.Common.{Bool, true, false, ◌==◌, ◌≡◌, ◌∙◌, ◌+◌, ◌*◌, ◌/◌, ◌%◌, ◌^◌, ℕ, ap, arith, refl}
+use Rattle.std.proofs.Common.{Bool, true, false, ◌≡◌, ◌∙◌, ℕ, ap, arith, refl}
 use Rattle.tr_sigset.specs.Sets
 use Rattle.tr_sigset.specs.Sets.{of_word}
 use Rattle.tr_tracee.specs.declared.thread.Options.{Options}
