@@ -1,5 +1,5 @@
 -- Numbers that rise, each counted as often as it stands there.
-use Rattle.std.proofs.Common.{ltb, ◌≡◌, ◌==◌, ◌+◌, ◌<◌, ◌≤◌, ◌⊎◌, inl, inr, ℕ, zero, suc, List, [], ◌∷◌, Bool, true, false, not, Result, Ok, Err, is_ok, if◌then◌else◌, length, get_or, remove, arith, refl, ap, sym, eq-eqb, subst}
+use Rattle.std.proofs.Common.{ltb, ◌≡◌, ◌==◌, ◌+◌, ◌++◌, ◌<◌, ◌≤◌, ◌⊎◌, inl, inr, ℕ, zero, suc, List, [], ◌∷◌, Bool, true, false, not, Result, Ok, Err, is_ok, if◌then◌else◌, length, get_or, remove, arith, refl, ap, sym, eq-eqb, subst}
 use Rattle.std.specs.List.{insert}
 use Rattle.std.specs.List.Sorted.{IsBinarySearchResult, IsNonDecreasing, IsPartitionPoint}
 use Rattle.std.specs.Ordering.{nat_cmp}
@@ -29,6 +29,10 @@ occurs_added m n (x ∷ xs) zero = one (n == m) (occurs m (x ∷ xs))
     one true k = omega arith
     one false k = omega arith
 occurs_added m n (x ∷ xs) (suc i) = omega (arith, occurs_added m n xs i)
+
+pub occurs_last : (m n : ℕ) (xs : List ℕ) → occurs m (xs ++ n ∷ []) ≡ occurs m xs + bool_to_nat (n == m)
+occurs_last m n [] = occurs_added m n [] 0
+occurs_last m n (x ∷ xs) = omega (arith, occurs_last m n xs)
 
 pub occurs_gone : (m n : ℕ) (xs : List ℕ) (i : ℕ) → i < length xs → get_or xs i 0 ≡ n → occurs m (remove xs i) + bool_to_nat (n == m) ≡ occurs m xs
 occurs_gone m n [] i h e = absurd (omega (arith, h))

@@ -82,6 +82,11 @@ impl Multiset {
         ensures sized { length self.new.numbers ≡ length self.old.numbers + 1 }
         ensures places { self.new.places ≡ self.old.places }
     {
+        // Mostly it comes last.
+        if self.numbers.last().is_none_or(|last| *last <= n) {
+            self.numbers.push_reserved(n);
+            return;
+        }
         let place = self.numbers.partition_point(|m| *m < n);
         let _inserted = self.numbers.insert(place, n);
     }
@@ -94,6 +99,11 @@ impl Multiset {
         ensures sized { length self.new.numbers + 1 ≡ length self.old.numbers }
         ensures places { self.new.places ≡ self.old.places }
     {
+        // Mostly it stands last.
+        if self.numbers.last().copied() == Some(n) {
+            let _last = self.numbers.pop();
+            return;
+        }
         if let Ok(place) = self.numbers.binary_search(&n) {
             let _removed = self.numbers.remove(place);
         }
