@@ -48,7 +48,9 @@ impl Thread {
     pub fn stop(&mut self)
         ensures { self.new ≡ stopped self.old }
     {
-        self.life = stopped_from(&self.life);
+        if self.life.is_free() {
+            self.life = Life::Stopped;
+        }
     }
 
     /// Sets the note mark of a live seized thread, since a SIGCONT came.
@@ -62,7 +64,9 @@ impl Thread {
     pub fn continue_one(&mut self)
         ensures { self.new ≡ continued self.old }
     {
-        self.life = continued_from(&self.life);
+        if self.life.is_stopped() {
+            self.life = Life::Free;
+        }
         self.stop_mark = false;
         self.joined = false;
     }
@@ -71,36 +75,8 @@ impl Thread {
     pub fn note_cont(&mut self)
         ensures { self.new ≡ cont_noted self.old }
     {
-        self.life = cont_noted_at(&self.life);
-    }
-}
-
-fn stopped_from(life: &Life) -> Life
-    ensures { result ≡ stopped_life life.now }
-{
-    match life {
-        Life::Free => Life::Stopped,
-        _ => *life,
-    }
-}
-
-fn continued_from(life: &Life) -> Life
-    ensures { result ≡ continued_life life.now }
-{
-    match life {
-        Life::Stopped => Life::Free,
-        _ => *life,
-    }
-}
-
-fn cont_noted_at(life: &Life) -> Life
-    ensures { result ≡ cont_noted_life life.now }
-{
-    match life {
-        Life::InStop(Stop::Signal { held, .. }) => Life::InStop(Stop::Signal {
-            held: *held,
-            cont_came: true,
-        }),
-        _ => *life,
+        if let Life::InStop(Stop::Signal { cont_came, .. }) = &mut self.life {
+            *cont_came = true;
+        }
     }
 }

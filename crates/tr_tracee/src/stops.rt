@@ -59,13 +59,14 @@ impl Thread {
 
     /// Restarts it from its ptrace-stop, as `PTRACE_CONT` does: from its exit stop it leaves, from every other stop
     /// it runs. Gives what the stop held. A report that no wait has consumed is withdrawn.
+    #[inline(always)]
     pub fn restart(&mut self) -> Option<Instance>
         ensures thread { self.new ≡ restarted self.old }
         ensures held { result ≡ held self.old.life }
     {
         let held = self.life.held();
         self.joined = self.joined && !ends_part_of(&self.life);
-        self.life = restarted_from(&self.life);
+        restart_life(&mut self.life);
         self.withdraw_report();
         held
     }
@@ -157,16 +158,18 @@ fn ends_part_of(life: &Life) -> bool
     matches!(life, Life::InStop(Stop::Group(_) | Stop::Event(_)))
 }
 
-fn restarted_from(life: &Life) -> Life
-    ensures { result ≡ restarted_life life.now }
+fn restart_life(life: &mut Life)
+    ensures { life.new ≡ restarted_life life.old }
 {
     match life {
-        Life::InStop(Stop::Exit(word)) => Life::Leaving {
-            end: end_of_word(*word),
-            told: true,
-        },
-        Life::InStop(_) => Life::Free,
-        _ => *life,
+        Life::InStop(Stop::Exit(word)) => {
+            *life = Life::Leaving {
+                end: end_of_word(*word),
+                told: true,
+            }
+        }
+        Life::InStop(_) => *life = Life::Free,
+        _ => {}
     }
 }
 
