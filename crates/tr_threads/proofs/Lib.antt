@@ -11,6 +11,7 @@ pub mod Places
 pub mod Reports
 pub mod RosterLists
 pub mod Rostering
+pub mod Rewritten
 pub mod Rosters
 pub mod RowWords
 pub mod ThreadLists

@@ -115,6 +115,7 @@ impl Roster {
 
     /// Where the id of the thread at a place of the table stands, or the length. It is looked for first where that place
     /// suggests.
+    #[inline(always)]
     fn place(&mut self, id: u32, at: usize) -> usize
         requires { occurs id self.old.ids ≤ 1 }
         ensures place { result ≡ place_in id self.old.ids }
@@ -298,7 +299,7 @@ impl Rosters {
         ensures { MatchOption result (roster_in self.now tgid ≡ no_one)
             (λ r. r.now ≡ roster_in self.now tgid) }
     {
-        let place = self.index.place(tgid)?;
+        let place = self.index.place_near(self.recent, tgid)?;
         Some(&self.list[place])
     }
 

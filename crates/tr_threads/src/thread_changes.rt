@@ -1,10 +1,11 @@
-ghost use Rattle.std.specs.Prelude.{◌≡◌, false, true};
+ghost use Rattle.std.specs.Prelude.{◌≡◌, false, if◌then◌else◌};
 ghost use Rattle.tr_tracee.specs.declared.thread.Thread.{Thread};
 ghost use Rattle.tr_threads.specs.Changes.{thread_changed_by};
-ghost use Rattle.tr_threads.specs.Alike.{StandAlike};
+ghost use Rattle.tr_threads.specs.Alike.{Turns};
+ghost use Rattle.tr_threads.specs.declared.thread_changes.Turned.TheVariants as turned;
 
 use tr_sigset::SigSet;
-use tr_tracee::{End, Options, Stop, Thread, Trace};
+use tr_tracee::{End, Life, Options, Stop, Thread, Trace};
 use tr_wait::Status;
 
 /// What happens to the record of one thread.
@@ -58,9 +59,36 @@ pub enum ThreadChange {
     Release,
 }
 
+/// What a change of a thread may turn of what is kept beside it.
+#[derive(Clone, Copy)]
+pub(crate) enum Turned {
+    /// Nothing, and nothing of the thread.
+    Nothing,
+    /// No more than whether it may take, and its stop mark.
+    Marks,
+    /// Its report alone.
+    Report,
+    /// Whether it may take, its stop mark and its report: it enters a stop or leaves it.
+    Stop,
+    /// More than that.
+    More,
+}
+
+impl Turned {
+    fn stop_if(stays_live: bool) -> Turned
+        ensures { result ≡ (if stays_live then turned.Stop else turned.More) }
+    {
+        if stays_live {
+            Turned::Stop
+        } else {
+            Turned::More
+        }
+    }
+}
+
 impl ThreadChange {
     /// Whether a thread may become another record by it.
-    pub(crate) fn turns(&self, thread: &Thread) -> bool
+    fn turns(&self, thread: &Thread) -> bool
         ensures { result ≡ false → thread_changed_by self.now thread.now ≡ thread.now }
     {
         match self {
@@ -74,20 +102,29 @@ impl ThreadChange {
         }
     }
 
-    /// Whether every thread stands after it as before: of all that is kept beside a thread it turns no more than its stop
-    /// mark and whether it may take.
-    #[tactic(auto, using(crate::proofs::Alike::mark_stands, crate::proofs::Alike::halt_stands, crate::proofs::Alike::continue_stands, crate::proofs::Alike::interrupt_stands))]
+    /// What it may turn of what is kept beside a thread.
+    #[tactic(auto, using(crate::proofs::Alike::pause_stands, crate::proofs::Alike::mark_stands, crate::proofs::Alike::join_stands, crate::proofs::Alike::halt_stands, crate::proofs::Alike::continue_stands, crate::proofs::Alike::interrupt_stands, crate::proofs::Alike::enter_stands, crate::proofs::Alike::restart_stands))]
     #[inline(always)]
-    pub(crate) fn turns_marks_alone(&self) -> bool
-        ensures { result ≡ true → (t : Thread) → StandAlike t (thread_changed_by self.now t) }
+    pub(crate) fn turned(&self, thread: &Thread) -> Turned
+        ensures { Turns result thread.now (thread_changed_by self.now thread.now) }
     {
-        matches!(
-            self,
-            ThreadChange::Mark
-                | ThreadChange::Halt
-                | ThreadChange::Continue(_)
-                | ThreadChange::Interrupt
-        )
+        if !self.turns(thread) {
+            return Turned::Nothing;
+        }
+        match self {
+            ThreadChange::Pausing(_)
+            | ThreadChange::Mark
+            | ThreadChange::Join
+            | ThreadChange::Halt
+            | ThreadChange::Continue(_)
+            | ThreadChange::Interrupt => Turned::Marks,
+            ThreadChange::Report(..) | ThreadChange::WithdrawReport => Turned::Report,
+            ThreadChange::Enter(stop, _) => {
+                Turned::stop_if(thread.life.is_live() && Life::InStop(*stop).is_live())
+            }
+            ThreadChange::Restart => Turned::stop_if(thread.life.is_live()),
+            _ => Turned::More,
+        }
     }
 
     /// Makes it of a thread.

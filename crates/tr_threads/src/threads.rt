@@ -7,11 +7,12 @@ ghost use Rattle.tr_model.specs.Tables.{ids_of, owner_in, thread_in};
 ghost use Rattle.tr_threads.specs.Changes.{thread_changed_by};
 ghost use Rattle.tr_threads.specs.Kept.{IsPlace, IsThreads};
 ghost use Rattle.tr_threads.specs.Tracing.{HasPlaces, IsTracing};
-ghost use Rattle.tr_threads.specs.Alike.{StandAlike};
+ghost use Rattle.tr_threads.specs.Alike.{Turns};
+ghost use Rattle.tr_threads.specs.declared.thread_changes.Turned.TheVariants as turned;
 ghost use Rattle.tr_threads.specs.Rosters.{roster_in, roster_of};
 
 use crate::roster_list::Rosters;
-use crate::thread_changes::ThreadChange;
+use crate::thread_changes::{ThreadChange, Turned};
 use crate::tracing::Tracing;
 use std::alloc::{AllocError, Global};
 use std::marker::Model;
@@ -183,21 +184,22 @@ impl Threads {
             → self.new
             ≡ slice_set self.old place (thread_changed_by change.now (get_or self.old place d)) }
     {
-        if !change.turns(&self.list[place]) {
-            return;
-        }
-        if change.turns_marks_alone() {
-            self.change_marks(place, change);
-        } else {
-            self.change_all(place, change);
+        match change.turned(&self.list[place]) {
+            Turned::Nothing => {}
+            Turned::Marks => self.change_marks(place, change),
+            Turned::Report => self.change_report(place, change),
+            Turned::Stop => self.change_stop(place, change),
+            Turned::More => self.change_all(place, change),
         }
     }
 
-    /// The same by a change after which the thread stands as before.
+    /// The same by a change that turns marks alone.
     #[inline(always)]
     fn change_marks(&mut self, place: usize, change: &ThreadChange)
         requires place { place < length self.old }
-        requires alike { (t : Thread) → StandAlike t (thread_changed_by change.now t) }
+        requires turned { (d : Thread)
+            → Turns turned.Marks (get_or self.old place d)
+            (thread_changed_by change.now (get_or self.old place d)) }
         ensures { (d : Thread)
             → self.new
             ≡ slice_set self.old place (thread_changed_by change.now (get_or self.old place d)) }
@@ -207,6 +209,42 @@ impl Threads {
         change.make(thread);
         self.rosters
             .rewrite_marks(had_mark, &self.list[place], place);
+    }
+
+    /// The same by a change that turns a report alone.
+    #[inline(always)]
+    fn change_report(&mut self, place: usize, change: &ThreadChange)
+        requires place { place < length self.old }
+        requires turned { (d : Thread)
+            → Turns turned.Report (get_or self.old place d)
+            (thread_changed_by change.now (get_or self.old place d)) }
+        ensures { (d : Thread)
+            → self.new
+            ≡ slice_set self.old place (thread_changed_by change.now (get_or self.old place d)) }
+    {
+        let former = self.list[place];
+        change.make(&mut self.list[place]);
+        self.tracing
+            .rewrite_report(&former, &self.list, &self.index, place);
+    }
+
+    /// The same by a change into a stop or out of it.
+    #[inline(always)]
+    fn change_stop(&mut self, place: usize, change: &ThreadChange)
+        requires place { place < length self.old }
+        requires turned { (d : Thread)
+            → Turns turned.Stop (get_or self.old place d)
+            (thread_changed_by change.now (get_or self.old place d)) }
+        ensures { (d : Thread)
+            → self.new
+            ≡ slice_set self.old place (thread_changed_by change.now (get_or self.old place d)) }
+    {
+        let former = self.list[place];
+        change.make(&mut self.list[place]);
+        self.rosters
+            .rewrite_marks(former.stop_mark, &self.list[place], place);
+        self.tracing
+            .rewrite_report(&former, &self.list, &self.index, place);
     }
 
     /// The same by any change.

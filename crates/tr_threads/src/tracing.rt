@@ -1,9 +1,10 @@
-ghost use Rattle.std.specs.Prelude.{List, ◌≡◌, ◌==◌, ℕ, ◌+◌, ◌<◌, ◌≤◌, ◌++◌, ◌∷◌, [], OnOk, false, filter, get_or, length, not, remove, slice_set, vec_capacity};
+ghost use Rattle.std.specs.Prelude.{List, ◌≡◌, ◌==◌, ℕ, ◌+◌, ◌<◌, ◌≤◌, ◌++◌, ◌∷◌, [], None, OnOk, Some, false, filter, get_or, if◌then◌else◌, length, not, remove, slice_set, vec_capacity};
 ghost use Rattle.std.specs.List.Sorted.{IsPartitionedBy};
 ghost use Rattle.tr_tracee.specs.declared.thread.Thread.{Thread};
 ghost use Rattle.tr_model.specs.Journals.{occurs};
 ghost use Rattle.tr_model.specs.Tables.{ids_of};
 ghost use Rattle.tr_index.specs.Counts.{bool_to_nat};
+ghost use Rattle.tr_threads.specs.Alike.{StandAlike};
 ghost use Rattle.tr_threads.specs.Tracing.{HasPlace, HasPlaces, IsTracing, IsUnkept, is_before, relisted, tracer, waiter};
 ghost use Rattle.tr_threads.specs.Waits.{is_untraced_death};
 
@@ -50,6 +51,13 @@ fn waiter_of(thread: &Thread) -> Option<u32>
     }
 }
 
+/// The tracer, where there is a report that it may wait for.
+fn waiter_if(reports: bool, tracer: u32) -> Option<u32>
+    ensures { result ≡ (if reports then Some tracer else None) }
+{
+    if reports { Some(tracer) } else { None }
+}
+
 fn is_untraced_death(thread: &Thread) -> bool
     ensures { result ≡ is_untraced_death thread.now }
 {
@@ -94,12 +102,25 @@ fn relist(ids: &mut Vec<u32>, index: &Index, place: usize, id: u32, was: bool, i
     ensures capacity { vec_capacity ids.new ≡ vec_capacity ids.old }
 {
     if was && !is {
-        let rank = rank(ids, index, place);
-        let _id = ids.remove(rank);
+        // Mostly it is the only one.
+        let rank = if ids.len() == 1 {
+            0
+        } else {
+            rank(ids, index, place)
+        };
+        if rank + 1 == ids.len() {
+            let _last = ids.pop();
+        } else {
+            let _id = ids.remove(rank);
+        }
     }
     if !was && is {
         let rank = rank(ids, index, place);
-        let _inserted = ids.insert(rank, id);
+        if rank == ids.len() {
+            ids.push_reserved(id);
+        } else {
+            let _inserted = ids.insert(rank, id);
+        }
     }
 }
 
@@ -210,6 +231,50 @@ impl Tracing {
             is_untraced_death(former),
             is_untraced_death(thread),
         );
+    }
+
+    /// The same of a thread that stands as before: of what is kept for waits, its report alone may be other.
+    #[inline(always)]
+    pub(crate) fn rewrite_report(
+        &mut self,
+        former: &Thread,
+        threads: &[Thread],
+        index: &Index,
+        place: usize,
+    )
+        requires kept { IsTracing (slice_set threads.now place former.now) self.old }
+        requires room { HasPlaces (length threads.now) self.old }
+        requires indexed { index.now ≡ ids_of threads.now }
+        requires once { (n : ℕ) → occurs n index.now ≤ 1 }
+        requires place { place < length threads.now }
+        requires same { (d : Thread) → former.now.id ≡ (get_or threads.now place d).id }
+        requires alike { (d : Thread) → StandAlike former.now (get_or threads.now place d) }
+        ensures kept { IsTracing threads.now self.new }
+        ensures places { (n : ℕ) → HasPlaces n self.old → HasPlaces n self.new }
+    {
+        let thread = &threads[place];
+        let (had, has) = (former.report.is_some(), thread.report.is_some());
+        if had == has {
+            return;
+        }
+        let Some(tracer) = thread.tracer() else {
+            self.untraced_deaths = recounted(
+                self.untraced_deaths,
+                is_untraced_death(former),
+                is_untraced_death(thread),
+            );
+            return;
+        };
+        let (before, after) = (waiter_if(had, tracer), waiter_if(has, tracer));
+        relist(
+            &mut self.reporting,
+            index,
+            place,
+            thread.id,
+            before.is_some(),
+            after.is_some(),
+        );
+        self.waiters.recount(before, after);
     }
 
     /// The thread at a place is to go.

@@ -1,8 +1,9 @@
-use Rattle.std.proofs.Common.{◌≡◌, ◌==◌, ◌<◌, ◌≤◌, ◌∙◌, ℕ, List, ap, length, get_or, if◌then◌else◌, subst, sym}
+use Rattle.std.proofs.Common.{◌≡◌, ◌==◌, ◌<◌, ◌≤◌, ◌∙◌, ℕ, List, ap, length, get_or, if◌then◌else◌, is_some, subst, sym}
 use Rattle.std.proofs.lemmas.List.{get_or-set_same}
 use Rattle.tr_tracee.specs.declared.thread.Thread.{Thread}
-use Rattle.tr_threads.specs.Alike.{StandAlike}
+use Rattle.tr_threads.specs.Alike.{StandAlike, Turns}
 use Rattle.tr_threads.specs.Changes.{thread_changed_by}
+use Rattle.tr_threads.specs.declared.thread_changes.Turned.TheVariants as turned
 use Rattle.tr_index.specs.Counts.{bool_to_nat}
 use Rattle.tr_threads.specs.Rosters.{HasRow, rewritten, roster_in, with_marks}
 use Rattle.tr_threads.proofs.Alike.{death_alike, traced_by_same, waited_by_same}
@@ -58,7 +59,10 @@ invariant_of-self c =
     let id : y.id ≡ (get_or ts p x).id = ap (λ (t : Thread). t.id) c.make.ensures ∙ ((same_changed c.args.change.now x).id ∙ ap (λ (t : Thread). t.id) at) in
     let group : y.group ≡ (get_or ts p x).group = ap (λ (t : Thread). t.group) c.make.ensures ∙ ((same_changed c.args.change.now x).group ∙ ap (λ (t : Thread). t.group) at) in
     let becomes : thread_changed_by c.args.change.now x ≡ y = sym c.make.ensures in
-    let alike : StandAlike x y = subst (StandAlike x) becomes (c.requires.alike x) in
+    let turns = subst (λ (t : Thread). Turns turned.Marks t (thread_changed_by c.args.change.now t)) (sym at)
+    (subst (λ (us : List Thread). Turns turned.Marks (get_or us p x) (thread_changed_by c.args.change.now (get_or us p x))) (sym c.self.view_is) (c.requires.turned x)) in
+    let alike : StandAlike x y = subst (StandAlike x) becomes turns.0 in
+    let reports : is_some x.report ≡ is_some y.report = ap is_some (turns.1 ∙ ap (λ (t : Thread). t.report) becomes) in
     let row : HasRow x (roster_in i.rosters x.group) = subst (λ (t : Thread). HasRow t (roster_in i.rosters t.group)) (sym at) (has_row ts i.index i.rosters c.self.invariant.rostered p x within) in
     let marks : (g : ℕ) → roster_in c.rewrite_marks.new.self g ≡ (if x.group == g then with_marks x.stop_mark y (roster_in i.rosters g) else roster_in i.rosters g) =
     λ g. subst (λ (t : Thread). roster_in c.rewrite_marks.new.self g ≡ (if t.group == g then with_marks x.stop_mark t (roster_in i.rosters g) else roster_in i.rosters g)) read (c.rewrite_marks.ensures g)
@@ -67,6 +71,6 @@ invariant_of-self c =
     λ g. marks g ∙ (marks_in x y alike (id ∙ ap (λ (t : Thread). t.id) (sym at)) x.group g i.rosters row ∙ ap (λ (t : Thread). if t.group == g then rewritten t y (roster_in i.rosters g) else roster_in i.rosters g) at) in
     record {
       rostered = kept_written ts i.index i.rosters c.self.invariant.rostered c.rewrite_marks.new.self p x y within id group told;
-      traced = traced_alike ts i.index i.tracing c.self.invariant.traced c.self.invariant.places c.self.invariant.rostered.indexed c.self.invariant.rostered.once p x within at y id (traced_by_same x y alike) (waited_by_same x y alike) (death_alike x y alike);
+      traced = traced_alike ts i.index i.tracing c.self.invariant.traced c.self.invariant.places c.self.invariant.rostered.indexed c.self.invariant.rostered.once p x within at y id (traced_by_same x y alike) (waited_by_same x y alike reports) (death_alike x y alike reports);
       places = places_written ts p y i.tracing c.self.invariant.places;
     }
