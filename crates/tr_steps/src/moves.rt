@@ -48,6 +48,7 @@ impl Step {
 
     /// What happens to the record of one thread, where that leaves it what it holds.
     #[tactic(auto, using(crate::proofs::Helds::helds_kept_by))]
+    #[inline(always)]
     pub fn change_thread(&mut self, id: u32, change: &ThreadChange)
         requires keeps { keeps_held change.now ≡ true }
         ensures { Moves (alter (at_thread id (thread_changed_by change.now))) 0 self.old self.new }

@@ -84,6 +84,7 @@ impl Table {
     }
 
     /// What happens to the record of the thread with the id, which is the only one with it.
+    #[inline(always)]
     pub fn change_thread(&mut self, id: u32, change: &ThreadChange)
         ensures table { self.new
             ≡ record self.old {

@@ -42,6 +42,7 @@ impl Table {
     }
 
     /// The next report, on the thread at a place, which changes so.
+    #[inline(always)]
     fn raise_at(&mut self, place: usize, change: &ThreadChange, status: &Status) -> Raise
         requires place { place < length self.old.table.threads }
         requires number { self.old.table.raised + 1 < 2 ^ 64 }
