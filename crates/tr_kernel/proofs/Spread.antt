@@ -5,10 +5,7 @@ use Rattle.std.proofs.lemmas.Option.{none-some, same_Some}
 use Rattle.std.specs.List.Sorted.{IsPartitionPoint, IsPartitionedBy}
 use Rattle.std.specs.Prelude.{nat_le, slice_get}
 use Rattle.tr_kernel.specs.declared.note_list.KeptNote.{KeptNote}
-use Rattle.tr_kernel.specs.declared.notes.EntryFact.{EntryFact}
-use Rattle.tr_kernel.specs.declared.notes.EntryFact.TheVariants.{Nothing, Stop, Take, Exec}
-use Rattle.tr_kernel.specs.declared.notes.Note.{Note}
-use Rattle.tr_kernel.specs.Kept.{AreWithin, IsUpto, blank, deaths_of, is_blank, note_upto, noted, place_of_note, spread}
+use Rattle.tr_kernel.specs.Kept.{AreWithin, IsUpto, blank, deaths_of, note_upto, noted, place_of_note, spread}
 
 pub length_spread : (ks : List KeptNote) (d p n : ℕ) → length (spread ks d p n) ≡ n
 length_spread ks d p zero = refl
@@ -75,19 +72,6 @@ spread_kept (k ∷ ks) x d p (suc n) h e = go (k.place == p) refl (spread_kept k
         ap (λ ns. noted k ∷ ns) (r (subst (λ m. AreWithin place_of_note (suc p) m ks) same (subst (λ m. AreWithin place_of_note (suc m) (p + suc n) ks) (eqb-true k.place p q) h.2)) (e ∙ same))
     go false q r t =
         ap (λ ns. blank d ∷ ns) (t (omega (arith, h.0, eqb-false k.place p q), omega (arith, h.1), subst (λ m. AreWithin place_of_note (suc k.place) m ks) same h.2) (e ∙ same))
-
--- Blank notes
-
-pub blank_is : (d : ℕ) (n : Note) → is_blank d n ≡ true → blank d ≡ n
-blank_is d n h = go n.fact n.killed (n.deaths == d) refl h
-  where
-    go : (f : EntryFact) (k b : Bool) → n.deaths == d ≡ b → is_blank d (record { fact = f; killed = k; deaths = n.deaths }) ≡ true → blank d ≡ record { fact = f; killed = k; deaths = n.deaths }
-    go Nothing false true q h = ap (λ m. blank m) (sym (eqb-true n.deaths d q))
-    go Nothing false false q h = absurd (subst (λ b. b ≡ true → ⊥) (sym q) (λ z. absurd cc) h)
-    go Nothing true b q h = absurd cc
-    go (Stop s) k b q h = absurd cc
-    go (Take t) k b q h = absurd cc
-    go (Exec g) k b q h = absurd cc
 
 -- The note at a place
 

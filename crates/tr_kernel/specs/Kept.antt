@@ -1,6 +1,6 @@
 -- What private contracts see of what a kernel keeps beside its table: what is written down, and for how much more there is
 -- room.
-use Rattle.std.specs.Prelude.{◌≡◌, ℕ, ◌+◌, ◌*◌, ◌^◌, ◌<◌, ◌≤◌, ◌==◌, nat_le, zero, suc, Bool, true, false, not, ◌&&◌, List, [], ◌∷◌, length, get_or, slice_get, Option, Some, None, if◌then◌else◌}
+use Rattle.std.specs.Prelude.{◌≡◌, ℕ, ◌+◌, ◌*◌, ◌^◌, ◌<◌, ◌≤◌, ◌==◌, nat_le, zero, suc, false, ◌&&◌, List, [], ◌∷◌, length, get_or, slice_get, Option, Some, None, if◌then◌else◌}
 use Rattle.tr_model.specs.Choices.{Choice}
 use Rattle.tr_model.specs.Entries.{Entry}
 use Rattle.tr_model.specs.declared.events.Event.{Event}
@@ -11,6 +11,7 @@ use Rattle.tr_model.specs.declared.replies.Reply.{Reply}
 use Rattle.tr_model.specs.declared.replies.Reply.TheVariants as reply
 use Rattle.tr_model.specs.declared.rows.Target.{Target}
 use Rattle.tr_model.specs.declared.rows.Target.TheVariants as target
+use Rattle.tr_model.specs.Packed.{word_of}
 use Rattle.tr_model.specs.Steps.{number}
 use Rattle.tr_kernel.specs.declared.note_list.FactKind.{FactKind}
 use Rattle.tr_kernel.specs.declared.note_list.FactKind.TheVariants as short
@@ -56,7 +57,7 @@ signal_of n = if nat_le 1 n && nat_le n 64 then n else 9
 
 -- the reply of an entry, of which this is kept whole
 abbrev pub told_whole : Entry → WholeReply → Reply
-told_whole e (whole.Sent fate high low) = reply.Sent fate (high * 2 ^ 32 + low)
+told_whole e (whole.Sent fate low high) = reply.Sent fate (word_of (record { low = low; high = high }))
 told_whole e (whole.Took did sig info) = reply.Took did (taker e) (record { n = number e.choice.instance; sig = signal_of sig; info = info })
 told_whole e (whole.Cloned id) = reply.Cloned id
 told_whole e (whole.Waited id word) = reply.Waited id word (number e.choice.report)
@@ -115,7 +116,7 @@ blank deaths = record { fact = Nothing; killed = false; deaths = deaths }
 
 -- a take from this queue, of which this is kept
 abbrev pub take_from : Target → KeptNote → EntryFact
-take_from q k = Take (record { number = k.number; signal = signal_of k.signal; queue = q; transfers = k.second })
+take_from q k = Take (record { number = word_of k.number; signal = signal_of k.signal; queue = q; transfers = k.second })
 
 -- what an entry is to the laws, of which this is kept
 abbrev pub fact_by : Kind → KeptNote → EntryFact
@@ -174,14 +175,6 @@ place_of_fact f = f.place
 abbrev pub AreWithin : {X : Type 0} → (X → ℕ) → ℕ → ℕ → List X → Type 0
 AreWithin place_of from to [] = from ≤ to
 AreWithin place_of from to (x ∷ xs) = (from ≤ place_of x) × (place_of x < to) × AreWithin place_of (suc (place_of x)) to xs
-
--- it says no more than that so many deaths had begun
-abbrev pub is_blank : ℕ → Note → Bool
-is_blank deaths n = is_nothing n.fact && (not n.killed && n.deaths == deaths)
-  where
-    is_nothing : EntryFact → Bool
-    is_nothing Nothing = true
-    is_nothing _ = false
 
 -- the note of the entry at a place, by those that are kept of the entries up to it
 abbrev pub note_upto : ℕ → ℕ → List KeptNote → Note

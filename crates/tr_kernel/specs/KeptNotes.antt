@@ -1,5 +1,5 @@
 -- What private contracts see of all that the notes keep.
-use Rattle.std.specs.Prelude.{ℕ, ◌+◌, ◌<◌, ◌≤◌, List, vec_capacity, vec_len}
+use Rattle.std.specs.Prelude.{ℕ, ◌+◌, ◌^◌, ◌<◌, ◌≤◌, List, vec_capacity, vec_len}
 use Rattle.tr_kernel.specs.declared.notes.IdTransfer.{IdTransfer}
 use Rattle.tr_kernel.specs.declared.notes.Note.{Note}
 use Rattle.tr_kernel.specs.declared.notes.Notes.TheInside.{Inside}
@@ -15,8 +15,10 @@ pub record KeptNotes : Type 0 where
 abbrev pub kept_notes : Inside → KeptNotes
 kept_notes n = record { notes = n.list.notes; dying = n.dying.items; transfers = n.transfers.items; room = n.room }
 
--- where so many deaths may begin, there is a place for each, for a note and for an id
+-- where so many deaths may begin, there is a place for each, for a note and for an id; and fewer than 2 ^ 32 deaths will
+-- have begun
 pub record HasPlaces (n : Inside) : Type 0 where
   pub dying : vec_len n.dying + n.room ≤ vec_capacity n.dying
+  pub few : vec_len n.dying + n.room < 2 ^ 32
   pub list : 0 < n.room → 0 < n.list.room
   pub transfers : 0 < n.room → vec_len n.transfers < vec_capacity n.transfers

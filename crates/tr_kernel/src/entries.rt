@@ -9,7 +9,9 @@ ghost use Rattle.tr_kernel.specs.States.{AcceptsFew};
 use crate::events::change;
 use crate::fates::Fates;
 use crate::journal::Journal;
+use crate::note_list::KeptNote;
 use crate::notes::{Notes, fact_before};
+use crate::replies::{BLOCK, BriefReply, Mark, WholeReply};
 use std::alloc::{AllocError, Global};
 use tr_model::{Choice, Entry, Event, MOST_THREADS, Reply};
 use tr_steps::Step;
@@ -37,6 +39,14 @@ pub(crate) fn report_of(entry: &Option<Entry>) -> Option<u64>
         None => None,
     }
 }
+
+/// An entry takes less than 72 bytes, with its reply, its note and its share of the mark of its block.
+const _: () = prove!(
+    (size_of::<Entry>() + size_of::<BriefReply>() + size_of::<WholeReply>() + size_of::<KeptNote>())
+        * BLOCK
+        + size_of::<Mark>()
+        < 72 * BLOCK
+);
 
 /// Makes room for an entry, the signals that it accepts and its note, by which at most this many deaths of groups begin.
 /// Mostly there is room, and nothing is called.

@@ -1,5 +1,5 @@
 ghost use Rattle.std.specs.Prelude.{◌≡◌, ◌↔◌, ◌++◌, ◌+◌, ◌-◌, ◌<◌, ◌≤◌, ◌==◌, ◌∷◌, ◌^◌, [], IfSome, IsTrue, None, OnOk, Some, false, find, length, nat_le, slice_get, true};
-ghost use Rattle.tr_kernel.specs.Kept.{AreWithin, IsUpto, blank, is_blank, kept_fact, note_upto, noted, place_of_fact, place_of_note, short_fact, short_take, take_from, with_fact};
+ghost use Rattle.tr_kernel.specs.Kept.{AreWithin, IsUpto, blank, kept_fact, note_upto, noted, place_of_fact, place_of_note, short_fact, short_take, take_from, with_fact};
 ghost use Rattle.tr_kernel.specs.declared.notes.EntryFact.TheVariants.{Nothing, Take};
 
 use crate::lists::grow;
@@ -7,7 +7,7 @@ use crate::notes::{EntryFact, Note, Stopped, TakenFrom};
 use crate::replies::signal_of;
 use std::alloc::{AllocError, Global};
 use std::marker::Model;
-use tr_model::Target;
+use tr_model::{Halves, Target};
 
 /// Of which case is what an entry is to the laws. A take is told apart by whose queue it took from.
 #[derive(Clone, Copy)]
@@ -19,12 +19,12 @@ enum Kind {
     Exec,
 }
 
-/// A note, in 32 bytes: a signal stands as its number.
+/// A note, in 28 bytes: a signal stands as its number.
 #[derive(Clone, Copy)]
 pub(crate) struct KeptNote {
     /// The number of what a take took.
-    number: u64,
-    deaths: u64,
+    number: Halves,
+    deaths: u32,
     /// The place of its entry, from 0.
     place: u32,
     /// The thread that stopped, the thread or the group of the queue, or the group of an execve(2).
@@ -66,7 +66,7 @@ pub(crate) struct NoteList {
     facts: Vec<KeptFact>,
     len: usize,
     /// How many deaths had begun after the last note that is kept.
-    deaths: u64,
+    deaths: u32,
 }
 
 impl Model for NoteList {
@@ -92,7 +92,7 @@ impl KeptNote {
         ensures note { noted result ≡ record note.now { fact = Nothing } }
     {
         KeptNote {
-            number: 0,
+            number: Halves::new(0),
             deaths: note.deaths,
             place,
             id: 0,
@@ -123,7 +123,7 @@ impl KeptNote {
                 };
                 KeptNote {
                     kind,
-                    number: taken.number,
+                    number: Halves::new(taken.number),
                     id,
                     second: taken.transfers,
                     signal: taken.signal.number(),
@@ -143,7 +143,7 @@ impl KeptNote {
         ensures { result ≡ take_from queue self.now }
     {
         EntryFact::Take(TakenFrom {
-            number: self.number,
+            number: self.number.word(),
             signal: signal_of(self.signal),
             queue,
             transfers: self.second,
@@ -177,16 +177,13 @@ impl KeptNote {
 }
 
 impl KeptFact {
-    /// Keeps a note by its fact alone, where that leaves nothing out. So many deaths had begun before its entry.
+    /// Keeps a fact by itself, where that leaves nothing out.
     #[inline(always)]
-    fn of_note(place: u32, note: &Note, deaths: u64) -> Option<KeptFact>
+    fn of_fact(place: u32, fact: &EntryFact) -> Option<KeptFact>
         ensures place { IfSome result (λ f. f.place ≡ place) }
-        ensures note { IfSome result (λ f. with_fact (Some f) (blank deaths) ≡ note.now) }
+        ensures fact { IfSome result (λ f. short_fact f ≡ fact.now) }
     {
-        if note.killed || note.deaths != deaths {
-            return None;
-        }
-        match note.fact {
+        match *fact {
             EntryFact::Stop(Stopped { thread, group }) => Some(KeptFact {
                 place,
                 id: thread,
@@ -249,7 +246,7 @@ impl KeptFact {
     }
 }
 
-fn blank(deaths: u64) -> Note
+fn blank(deaths: u32) -> Note
     ensures { result ≡ blank deaths }
 {
     Note {
@@ -257,13 +254,6 @@ fn blank(deaths: u64) -> Note
         killed: false,
         deaths,
     }
-}
-
-/// Tells whether it is the note of an entry that is nothing to the laws, after so many deaths.
-fn is_blank(note: &Note, deaths: u64) -> bool
-    ensures { result ≡ is_blank deaths note.now }
-{
-    matches!(note.fact, EntryFact::Nothing) && !note.killed && note.deaths == deaths
 }
 
 /// How many of these are of entries up to this place.
@@ -345,7 +335,7 @@ impl NoteList {
     /// Appends the note of an entry that is nothing to the laws, after so many deaths, where as many had begun after the
     /// last note that is kept; else it appends none.
     #[inline(always)]
-    pub(crate) fn push_blank(&mut self, deaths: u64) -> bool
+    pub(crate) fn push_blank(&mut self, deaths: u32) -> bool
         requires few { length self.old.notes < 2 ^ 32 }
         ensures pushed { result ≡ true → self.new.notes ≡ self.old.notes ++ blank deaths ∷ [] }
         ensures room { self.new.room ≡ self.old.room }
@@ -358,20 +348,49 @@ impl NoteList {
         true
     }
 
+    /// Appends the note of an entry that delivered no KILL, by its fact alone, where as many deaths had begun after the
+    /// last note that is kept and the fact can be kept so; else it appends none and nothing changes.
+    #[inline(always)]
+    pub(crate) fn push_fact(&mut self, fact: &EntryFact, deaths: u32) -> bool
+        requires room { 0 < self.old.room }
+        requires few { length self.old.notes < 2 ^ 32 }
+        ensures pushed { result ≡ true
+            → self.new.notes
+            ≡ self.old.notes ++ (record { fact = fact.now; killed = false; deaths = deaths }) ∷ [] }
+        ensures unchanged { result ≡ false → self.new ≡ self.old }
+    {
+        if matches!(fact, EntryFact::Nothing) {
+            return self.push_blank(deaths);
+        }
+        match KeptFact::of_fact(self.len as u32, fact) {
+            Some(kept) if self.deaths == deaths => self.facts.push_reserved(kept),
+            _ => return false,
+        }
+        self.len += 1;
+        true
+    }
+
+    /// Appends a note that is kept whole.
+    fn push_whole(&mut self, note: &Note)
+        requires room { 0 < self.old.room }
+        requires few { length self.old.notes < 2 ^ 32 }
+        ensures { self.new.notes ≡ self.old.notes ++ note.now ∷ [] }
+    {
+        self.kept
+            .push_reserved(KeptNote::new(self.len as u32, note));
+        self.deaths = note.deaths;
+        self.len += 1;
+    }
+
     /// Appends a note.
     pub(crate) fn push(&mut self, note: &Note)
         requires room { 0 < self.old.room }
         requires few { length self.old.notes < 2 ^ 32 }
         ensures { self.new.notes ≡ self.old.notes ++ note.now ∷ [] }
     {
-        let place = self.len as u32;
-        if let Some(fact) = KeptFact::of_note(place, note, self.deaths) {
-            self.facts.push_reserved(fact);
-        } else if !is_blank(note, self.deaths) {
-            self.kept.push_reserved(KeptNote::new(place, note));
-            self.deaths = note.deaths;
+        if note.killed || !self.push_fact(&note.fact, note.deaths) {
+            self.push_whole(note);
         }
-        self.len += 1;
     }
 
     /// The note of the entry at a place, from 0.

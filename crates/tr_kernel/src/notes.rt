@@ -16,6 +16,9 @@ use tr_wait::Status;
 
 // What each entry leaves beside the journal, so that the laws answer without a look at an old table.
 
+/// The most deaths that are listed: a note counts them in four bytes.
+const MOST_DEATHS: usize = u32::MAX as usize;
+
 /// A thread whose stop report a tracer's wait consumed, and its group.
 #[derive(Clone, Copy)]
 pub(crate) struct Stopped {
@@ -70,7 +73,7 @@ pub(crate) struct Note {
     /// It delivered a KILL.
     pub(crate) killed: bool,
     /// How many deaths of groups had begun after it.
-    pub(crate) deaths: u64,
+    pub(crate) deaths: u32,
 }
 
 /// How often an id passed to another thread.
@@ -268,6 +271,15 @@ fn append_all(list: &mut Vec<u32>, more: &[u32])
     }
 }
 
+/// Tells for how many deaths there is still room, where there was for so many: for none, if no note has a place.
+#[inline(always)]
+fn room_left(list: &NoteList, room: usize) -> usize
+    ensures left { 0 < list.now.room → result ≡ room }
+    ensures full { list.now.room ≡ 0 → result ≡ 0 }
+{
+    if list.has_room() { room } else { 0 }
+}
+
 // What a note says
 
 pub(crate) fn fact_in(note: &Option<Note>) -> EntryFact
@@ -315,7 +327,8 @@ impl Notes {
     }
 
     /// Makes room for the note of one entry, by which at most this many deaths of groups begin. Where memory is refused
-    /// the notes are as before.
+    /// the notes are as before. It is refused also where 2^32 deaths might come to be listed, since a
+    /// note counts them in four bytes.
     #[inline(never)]
     pub(crate) fn reserve(&mut self, deaths: usize) -> Result<(), AllocError>
         ensures notes { self.new.notes ≡ self.old.notes }
@@ -324,6 +337,9 @@ impl Notes {
         ensures room { OnOk result (deaths ≤ self.new.room) }
     {
         self.room = 0;
+        if deaths > MOST_DEATHS - self.dying.len() {
+            return Err(AllocError);
+        }
         self.list.reserve_one()?;
         self.dying.reserve(deaths)?;
         self.transfers.reserve(1)?;
@@ -355,15 +371,16 @@ impl Notes {
         ensures transfers { AreTransferred step.now.work.renamed self.old.transfers self.new.transfers }
     {
         if matches!(fact, FactBefore::Nothing)
+            && step.news().taken_from().is_none()
             && step.news().is_plain()
-            && self.list.push_blank(self.dying.len() as u64)
+            && self.list.push_blank(self.dying.len() as u32)
         {
             return;
         }
         self.note_made(fact, step, *reply);
     }
 
-    /// Notes an entry that may be something to the laws.
+    /// Notes an entry that may be something to the laws: mostly a take or a stop, by its fact alone.
     #[inline(never)]
     fn note_made(&mut self, fact: FactBefore, step: &Step, reply: Reply)
         requires room { 0 < self.old.room }
@@ -378,14 +395,19 @@ impl Notes {
         ensures dying { self.new.dying ≡ self.old.dying ++ step.now.work.dying }
         ensures transfers { AreTransferred step.now.work.renamed self.old.transfers self.new.transfers }
     {
-        self.room = 0;
         let fact = fact_after(fact, &reply, step.news().taken_from(), &self.transfers);
+        let plain = step.news().is_plain();
+        if plain && self.list.push_fact(&fact, self.dying.len() as u32) {
+            self.room = room_left(&self.list, self.room);
+            return;
+        }
+        self.room = 0;
         append_all(&mut self.dying, step.news().dying());
         count_first_transfer(&mut self.transfers, step.news().renamed());
         let note = Note {
             fact,
             killed: !step.news().killed().is_empty(),
-            deaths: self.dying.len() as u64,
+            deaths: self.dying.len() as u32,
         };
         self.list.push(&note);
         self.count_room();
@@ -399,7 +421,7 @@ impl Notes {
         ensures transfers { self.new.transfers ≡ self.old.transfers }
     {
         self.room = if self.list.has_room() && self.transfers.len() < self.transfers.capacity() {
-            self.dying.capacity() - self.dying.len()
+            self.dying.capacity().min(MOST_DEATHS) - self.dying.len()
         } else {
             0
         };

@@ -5,12 +5,9 @@ ghost use Rattle.tr_model.specs.Entries.{Entry};
 ghost use Rattle.tr_model.specs.declared.replies.Reply.TheVariants as reply;
 ghost use Rattle.tr_model.specs.Steps.{number};
 
-use tr_model::{Did, Entry, Event, Fate, Reply};
+use tr_model::{Did, Entry, Event, Fate, Halves, Reply};
 use tr_pending::{Info, Instance};
 use tr_sigset::Signal;
-
-/// Where a number is cut in two halves.
-const HALF: u64 = 1 << 32;
 
 /// How many entries stand between two marks.
 pub(crate) const BLOCK: usize = 64;
@@ -40,7 +37,7 @@ pub(crate) enum BriefReply {
 /// report a wait consumed. A number stands in two halves, and a signal as its number.
 #[derive(Clone, Copy)]
 pub(crate) enum WholeReply {
-    Sent { fate: Fate, high: u32, low: u32 },
+    Sent { fate: Fate, low: u32, high: u32 },
     Took { did: Did, sig: u8, info: Info },
     Cloned { tid: u32 },
     Waited { id: u32, word: u32 },
@@ -125,11 +122,10 @@ pub(crate) fn keep(wholes: &mut Vec<WholeReply>, mark: Mark, reply: &Reply) -> B
         Reply::Nothing => return BriefReply::Nothing,
         Reply::Sent { n, fate } => match mark.brief_of_sent(n, fate) {
             Some(brief) => return brief,
-            None => WholeReply::Sent {
-                high: (n / HALF) as u32,
-                low: (n % HALF) as u32,
-                fate,
-            },
+            None => {
+                let Halves { low, high } = Halves::new(n);
+                WholeReply::Sent { fate, low, high }
+            }
         },
         Reply::Took { inst, did, .. } => WholeReply::Took {
             did,
@@ -180,8 +176,8 @@ impl WholeReply {
         ensures { result ≡ told_whole entry.now self.now }
     {
         match *self {
-            WholeReply::Sent { high, low, fate } => Reply::Sent {
-                n: high as u64 * HALF + low as u64,
+            WholeReply::Sent { fate, low, high } => Reply::Sent {
+                n: Halves { low, high }.word(),
                 fate,
             },
             WholeReply::Took { did, sig, info } => Reply::Took {

@@ -32,7 +32,7 @@ fn is_restart(stop: &Stopped, tracer: u32, entry: &Entry, fact: &EntryFact) -> b
     }
 }
 
-fn deaths_in(note: &Option<Note>) -> u64
+fn deaths_in(note: &Option<Note>) -> u32
     ensures { result ≡ deaths_in note.now }
 {
     match note {
@@ -42,7 +42,7 @@ fn deaths_in(note: &Option<Note>) -> u64
 }
 
 /// How many deaths of groups had begun before the entry at a place, counted from 0.
-fn deaths_to(notes: &NoteList, place: usize) -> u64
+fn deaths_to(notes: &NoteList, place: usize) -> u32
     requires { place ≤ length notes.now.notes }
     ensures { result ≡ deaths_to notes.now.notes place }
 {
@@ -53,7 +53,7 @@ fn deaths_to(notes: &NoteList, place: usize) -> u64
 }
 
 /// Whether the group is among those whose death began from one number of deaths to another.
-fn died(dying: &[u32], before: u64, after: u64, group: u32) -> bool
+fn died(dying: &[u32], before: u32, after: u32, group: u32) -> bool
     requires { (before ≤ after) × (after ≤ length dying.now) }
     ensures { result ≡ list_any (λ g. g == group) (take (after - before) (drop before dying.now)) }
 {

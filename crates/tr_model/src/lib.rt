@@ -32,6 +32,7 @@ pub use journals::{
 };
 pub use laws::{causes_are_causes, nothing_is_exact, preferred_is_admitted, steps_are_determined};
 pub use limits::{GREATEST_ID, MOST_MEMBERS, MOST_THREADS};
+pub use packed::Halves;
 pub use raises::Raise;
 pub use replies::{Did, Refusal, Reply};
 pub use rows::{Group, Name, Target, Waiting};

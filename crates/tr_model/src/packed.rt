@@ -10,14 +10,16 @@ use tr_wait::{WaitFlags, Which};
 
 /// A word in two halves, which stands at a multiple of four.
 #[derive(Clone, Copy, Debug)]
-pub(crate) struct Halves {
-    low: u32,
-    high: u32,
+pub struct Halves {
+    pub low: u32,
+    pub high: u32,
 }
 
 impl Halves {
-    fn new(word: u64) -> Halves
-        ensures { result ≡ halves_of word }
+    /// Cuts a word.
+    pub fn new(word: u64) -> Halves
+        ensures halves { result ≡ halves_of word }
+        ensures same { word_of result ≡ word }
     {
         Halves {
             low: (word % (1 << 32)) as u32,
@@ -25,7 +27,8 @@ impl Halves {
         }
     }
 
-    fn word(self) -> u64
+    /// Puts the word together.
+    pub fn word(self) -> u64
         ensures { result ≡ word_of self }
     {
         u64::from(self.low) + u64::from(self.high) * (1 << 32)

@@ -17,9 +17,8 @@ pub record News : Type 0 where
 abbrev pub no_news : News
 no_news = record { raises = []; dying = []; killed = []; renamed = []; taken_from = None }
 
--- at most reports
+-- at most reports, and whose queue a take took from: no death began, no KILL was delivered, and no id was given away
 pub record IsPlain (t : News) : Type 0 where
-  pub taken_from : t.taken_from ≡ None
   pub dying : t.dying ≡ []
   pub killed : t.killed ≡ []
   pub renamed : t.renamed ≡ []
@@ -40,7 +39,7 @@ news_and_room t = record {
       (min (vec_capacity t.killed - vec_len t.killed) (vec_capacity t.renamed - vec_len t.renamed));
 }
 
--- so many places are in each list, and it is known whether there is nothing but reports
+-- so many places are in each list, and it is known whether it is plain
 pub record IsKnown (t : Inside) : Type 0 where
   pub raises : t.places ≤ vec_capacity t.raises
   pub dying : t.places ≤ vec_capacity t.dying

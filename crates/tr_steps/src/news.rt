@@ -6,14 +6,14 @@ use std::alloc::{AllocError, Global};
 use std::marker::Model;
 use tr_model::{Raise, Target};
 
-/// What a step did beside what it ended. Most raise reports at most.
+/// What a step did beside what it ended. Most raise reports at most, or take from a queue.
 pub struct News {
     raises: Vec<Raise>,
     dying: Vec<u32>,
     killed: Vec<u32>,
     renamed: Vec<u32>,
     taken_from: Option<Target>,
-    /// Nothing but reports is in it.
+    /// At most reports are in it, and whose queue a take took from.
     is_plain: bool,
     /// How many places each of the lists has at least, those in use included.
     places: usize,
@@ -93,7 +93,7 @@ impl News {
         self.taken_from
     }
 
-    /// Whether there is nothing but reports in it.
+    /// Whether there are at most reports in it, and whose queue a take took from.
     #[inline(always)]
     pub fn is_plain(&self) -> bool
         ensures { IsTrue result ↔ IsPlain self.now.news }
@@ -107,13 +107,13 @@ impl News {
         ensures { self.new.news ≡ no_news }
     {
         self.raises.clear();
+        self.taken_from = None;
         if self.is_plain {
             return;
         }
         self.dying.clear();
         self.killed.clear();
         self.renamed.clear();
-        self.taken_from = None;
         self.is_plain = true;
     }
 
@@ -203,6 +203,5 @@ impl News {
         ensures room { self.new.room ≡ self.old.room }
     {
         self.taken_from = Some(queue);
-        self.is_plain = false;
     }
 }
