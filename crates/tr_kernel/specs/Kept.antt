@@ -1,6 +1,6 @@
 -- What private contracts see of what a kernel keeps beside its table: what is written down, and for how much more there is
 -- room.
-use Rattle.std.specs.Prelude.{◌≡◌, ℕ, ◌+◌, ◌*◌, ◌^◌, ◌<◌, ◌≤◌, ◌==◌, nat_le, zero, suc, false, ◌&&◌, List, [], ◌∷◌, length, get_or, slice_get, Option, Some, None, if◌then◌else◌}
+use Rattle.std.specs.Prelude.{◌≡◌, ℕ, ◌+◌, ◌^◌, ◌<◌, ◌≤◌, ◌==◌, nat_le, zero, suc, false, ◌&&◌, List, [], ◌∷◌, length, get_or, slice_get, Option, Some, None, if◌then◌else◌}
 use Rattle.tr_model.specs.Choices.{Choice}
 use Rattle.tr_model.specs.Entries.{Entry}
 use Rattle.tr_model.specs.declared.events.Event.{Event}

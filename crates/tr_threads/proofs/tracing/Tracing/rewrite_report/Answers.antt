@@ -1,6 +1,5 @@
-use Rattle.std.proofs.Common.{◌≡◌, ◌+◌, ◌∙◌, ◌≤◌, Bool, List, None, Some, filter, is_some, length, set, ap, arith, refl, rules, subst, sym, vec_capacity}
+use Rattle.std.proofs.Common.{◌≡◌, ◌+◌, ◌∙◌, ◌≤◌, Bool, None, Some, filter, is_some, length, set, ap, arith, refl, rules, subst, sym, vec_capacity}
 use Rattle.tr_index.specs.Counts.{bool_to_nat}
-use Rattle.tr_tracee.specs.declared.thread.Thread.{Thread}
 use Rattle.tr_threads.specs.Alike.{StandAlike}
 use Rattle.tr_threads.specs.Tracing.{HasPlaces, IsTracing, TracingView, is_before, relisted, tracer, waiter}
 use Rattle.tr_threads.specs.Waits.{is_untraced_death}
