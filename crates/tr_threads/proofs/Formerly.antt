@@ -20,3 +20,7 @@ module _ (ts : List Thread) (i : ℕ) (t u : Thread) (within : i < length ts) (n
 
   pub is_now : set (set ts i t) i u ≡ ts
   is_now = set-set ts i t u ∙ (ap (λ (x : Thread). set ts i x) now ∙ set-get_or ts i u)
+
+-- the record that stood there, put back
+pub put_back : (ts us : List Thread) (i : ℕ) (t u : Thread) → us ≡ set ts i u → t ≡ get_or ts i t → set us i t ≡ ts
+put_back ts us i t u e at = ap (λ (vs : List Thread). set vs i t) e ∙ (set-set ts i u t ∙ (ap (λ (x : Thread). set ts i x) at ∙ set-get_or ts i t))

@@ -1,41 +1,29 @@
-use Rattle.std.proofs.Common.{◌≡◌, ◌==◌, ◌<◌, ◌∙◌, ℕ, List, ap, length, get_or, set, if◌then◌else◌, subst, sym}
-use Rattle.std.proofs.lemmas.List.{get_or_default, set-get_or, set-set}
+use Rattle.std.proofs.Common.{◌≡◌, ◌==◌, ◌<◌, ◌∙◌, ℕ, List, ap, length, get_or, if◌then◌else◌, subst, sym}
+use Rattle.std.proofs.lemmas.List.{get_or_default}
 use Rattle.tr_tracee.specs.declared.thread.Thread.{Thread}
-use Rattle.tr_model.specs.Tables.{ids_of}
 use Rattle.tr_threads.specs.Alike.{Turns}
 use Rattle.tr_threads.specs.Changes.{thread_changed_by}
 use Rattle.tr_threads.specs.declared.thread_changes.Turned.TheVariants as turned
 use Rattle.tr_threads.specs.Rosters.{rewritten, roster_in}
 use Rattle.tr_threads.specs.Tracing.{IsTracing}
 use Rattle.tr_threads.proofs.Alike.{counts_by_report, words_by_report}
-use Rattle.tr_threads.proofs.Keeping.{same_changed}
+use Rattle.tr_threads.proofs.Formerly.{put_back}
+use Rattle.tr_threads.proofs.Keeping.{same_changed, same_ids}
 use Rattle.tr_threads.proofs.RosterLists.{unwritten}
 use Rattle.tr_threads.proofs.Rostering.{has_row, kept_written}
-use Rattle.tr_threads.proofs.ThreadLists.{ids_written}
 use Rattle.tr_threads.proofs.Tracings.{places_written}
 use Rattle.tr_threads.proofs.threads.Threads.change_report.Goals as goal
 
 pub rewrite_report-requires-clause-kept : goal.rewrite_report-requires-clause-kept
 rewrite_report-requires-clause-kept c =
     let i = c.self.inside in
-    let ts = i.list.items in
-    let x = c.index.result.now in
-    let back : set c.deref.result.now c.args.place x ≡ ts =
-    ap (λ (us : List Thread). set us c.args.place x) c.deref.ensures.value
-    ∙ (set-set ts c.args.place c.make.new.thread x ∙ (ap (λ (t : Thread). set ts c.args.place t) c.index.ensures ∙ set-get_or ts c.args.place x)) in
-    subst (λ (us : List Thread). IsTracing us i.tracing) (sym back) c.self.invariant.traced
+    subst (λ (us : List Thread). IsTracing us i.tracing) (sym (put_back i.list.items c.deref.result.now c.args.place c.index.result.now c.make.new.thread c.deref.ensures.value c.index.ensures)) c.self.invariant.traced
 
 pub rewrite_report-requires-clause-indexed : goal.rewrite_report-requires-clause-indexed
 rewrite_report-requires-clause-indexed c =
     let i = c.self.inside in
-    let ts = i.list.items in
-    let p = c.args.place in
-    let x = c.index.result.now in
-    let z = c.index_mut.result.now in
-    let within : p < length ts = subst (λ (us : List Thread). p < length us) (sym c.self.view_is) c.requires.place in
-    let here : z ≡ get_or ts p x = c.index_mut.ensures.value ∙ get_or_default ts p z x within in
-    let same : c.make.new.thread.id ≡ (get_or ts p x).id = ap (λ (t : Thread). t.id) c.make.ensures ∙ ((same_changed c.args.change.now z).id ∙ ap (λ (t : Thread). t.id) here) in
-    c.self.invariant.rostered.indexed ∙ sym (ap ids_of c.deref.ensures.value ∙ ids_written ts p x c.make.new.thread same within)
+    let within : c.args.place < length i.list.items = subst (λ (us : List Thread). c.args.place < length us) (sym c.self.view_is) c.requires.place in
+    c.self.invariant.rostered.indexed ∙ sym (same_ids c.args.change.now i.list.items c.deref.result.now c.args.place c.index.result.now c.make.new.thread c.index_mut.result.now within c.deref.ensures.value c.make.ensures c.index_mut.ensures.value)
 
 pub invariant_of-self : goal.invariant_of-self
 invariant_of-self c =
