@@ -55,12 +55,10 @@ abbrev pub IsRare : Event → Type 0
 IsRare (event.Kill g s) = ⊥
 IsRare (event.Sigqueue g s v) = ⊥
 IsRare (event.Mask id set) = ⊥
-IsRare (event.Pause id) = ⊥
 IsRare (event.Take id) = ⊥
 IsRare (event.TakeAny g) = ⊥
 IsRare (event.Halt id) = ⊥
 IsRare (event.Trap id) = ⊥
-IsRare (event.Interrupt id) = ⊥
 IsRare (event.Cont id s) = ⊥
 IsRare (event.Wait which) = ⊥
 IsRare _ = Unit {0}

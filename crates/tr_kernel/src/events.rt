@@ -65,7 +65,7 @@ pub(crate) fn check(table: &Table, actor: u32, event: &Event) -> Result<Checked,
 
 /// Makes an event that is due, with any choice that the model admits. Where memory is refused nothing has changed.
 ///
-/// What makes a frequent event is inlined. The reply of a rare one comes through memory, and is taken out of it here, so that
+/// What makes a frequent event is inlined, but for a mask. A reply that comes through memory is taken out of it here, so that
 /// the others' needs none.
 #[inline(always)]
 pub(crate) fn change(
@@ -85,8 +85,10 @@ pub(crate) fn change(
     match event {
         Event::Kill { tgid, sig } => kill(step, actor, *tgid, *sig),
         Event::Sigqueue { tgid, sig, value } => sigqueue(step, actor, *tgid, *sig, *value),
-        Event::Mask { tid, set } => mask(step, actor, *tid, *set),
-        Event::Pause { tid } => pause(step, actor, *tid),
+        Event::Mask { tid, set } => {
+            let reply = mask(step, actor, *tid, *set)?;
+            Ok(reply)
+        }
         Event::Take { tid } => take(step, actor, *tid, choice.instance().unwrap()),
         Event::TakeAny { tgid } => take_any(
             step,
@@ -97,7 +99,6 @@ pub(crate) fn change(
         ),
         Event::Halt { tid } => halt(step, actor, *tid),
         Event::Trap { tid } => trap(step, actor, *tid),
-        Event::Interrupt { tid } => interrupt(step, actor, *tid),
         Event::Cont { tid, sig } => cont(step, actor, *tid, *sig),
         Event::Wait { which } => wait(step, actor, *which, choice.report().unwrap()),
         _ => {
@@ -127,6 +128,7 @@ fn change_rarely(
     match event {
         Event::Tgkill { tgid, tid, sig } => tgkill(step, actor, *tgid, *tid, *sig),
         Event::SetAction { tid, sig, how } => set_action(step, actor, *tid, *sig, *how),
+        Event::Pause { tid } => pause(step, actor, *tid),
         Event::Die { tid } => die(step, actor, *tid),
         Event::CloneThread { tid } => clone_thread(step, actor, *tid, choice.new_id().unwrap()),
         Event::Exec { tid } => exec(step, actor, *tid),
@@ -135,6 +137,7 @@ fn change_rarely(
         Event::ExitGroup { tid, code } => exit_group(step, actor, *tid, *code),
         Event::Attach { tid } => attach(step, actor, *tid),
         Event::Seize { tid, options } => seize(step, actor, *tid, *options),
+        Event::Interrupt { tid } => interrupt(step, actor, *tid),
         Event::Listen { tid } => listen(step, actor, *tid),
         Event::Detach { tid, sig } => detach(step, actor, *tid, *sig),
         Event::SetOptions { tid, options } => set_options(step, actor, *tid, *options),

@@ -146,15 +146,18 @@ impl Fates {
         requires { more ≤ self.old.room }
         ensures { self.new.fates ≡ endings_noted ended.now (self.old.fates ++ replicate more Pending) }
     {
-        if let (1, [ending]) = (more, ended) {
-            if ending.number == self.list.len() as u64 + 1 {
+        let next = self.list.len() as u64 + 1;
+        match ended {
+            [] => self.accept(more),
+            [ending] if more == 1 && ending.number == next => {
                 self.list.push_reserved(ending.fate);
                 self.counts.add(ending.fate);
-                return;
+            }
+            _ => {
+                self.accept(more);
+                self.write_all(ended);
             }
         }
-        self.accept(more);
-        self.write_all(ended);
     }
 
     /// Writes down what ended.

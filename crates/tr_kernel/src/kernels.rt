@@ -1,23 +1,18 @@
-ghost use Rattle.std.specs.Prelude.{◌≡◌, ◌≢◌, ◌↔◌, ℕ, ◌≤◌, ◌<◌, ◌+◌, ◌-◌, ◌^◌, ◌⊎◌, IsSome, IsTrue, length, slice_get, IfOk, IfErr, IfSome, OnErr, OnOk, Ok, Err, Some, None, false, true};
-ghost use Rattle.tr_model.specs.declared.checked.Checked.TheVariants.{Due};
+ghost use Rattle.std.specs.Prelude.{◌≡◌, ◌≢◌, ◌↔◌, ℕ, ◌≤◌, ◌<◌, ◌+◌, ◌-◌, ◌^◌, IsSome, IsTrue, length, slice_get, IfOk, IfErr, IfSome, OnErr, OnOk, Ok, Err, Some, None, false, true};
 ghost use Rattle.tr_model.specs.declared.fates.Fate.{Fate};
 ghost use Rattle.tr_model.specs.declared.replies.Refusal.{Refusal};
 ghost use Rattle.tr_model.specs.Journals.{HasFate, consumed_by, ended_by, fate_of, occurs, totals};
 ghost use Rattle.tr_model.specs.Laws.{OneFate};
-ghost use Rattle.tr_model.specs.Causes.{cause_of};
 ghost use Rattle.tr_model.specs.Compare.{IsLet, Permits, entry_for};
 ghost use Rattle.tr_model.specs.Preferred.{check};
 ghost use Rattle.tr_starts.specs.Starts.{is_good, table_of};
-ghost use Rattle.tr_kernel.specs.declared.answers.Answer.TheVariants.{Refused};
-ghost use Rattle.tr_kernel.specs.Answers.{IfEntered, IfRead, IfRefused, IsReceipt};
 ghost use Rattle.tr_kernel.specs.Foreseen.{choice_ahead, choice_with_room, foreseen, foreseen_entry};
 ghost use Rattle.tr_kernel.specs.Heard.{IsHeard, call_of};
 ghost use Rattle.tr_kernel.specs.Laws.{KillsAt, RaisedBefore, WaitsAt, consumed_at};
 ghost use Rattle.tr_kernel.specs.Notes.{notes_of};
 ghost use Rattle.tr_kernel.specs.Private.{IsRestartAt, fact_at};
-ghost use Rattle.tr_kernel.specs.States.{AcceptsFew, IsDue, IsEntered, IsHistory, IsMade, IsQuiet, IsRefusal, IsWithheld, opened};
+ghost use Rattle.tr_kernel.specs.States.{AcceptsFew, IsDue, IsHistory, IsMade, IsWithheld, opened};
 
-use crate::answers::{Answer, Receipt};
 use crate::entries::{report_of, write_entry};
 use crate::events::check;
 use crate::fates::Fates;
@@ -236,63 +231,6 @@ impl Kernel {
         Some(place as u64 + 1)
     }
 
-    /// Makes one call of an actor, and tells what came of it: an entry with its receipt, an answer without an entry, or a
-    /// refusal.
-    ///
-    /// A cause of the model's comes exactly where the model has it; `JournalFull` exactly where an entry is due and the
-    /// journal has as many as the entry limit; `NoMemory` only where an entry is due and the journal isn't full. After a
-    /// refusal nothing has changed.
-    #[inline(always)]
-    pub fn call(&mut self, actor: u32, event: Event) -> Answer
-        ensures entered { IfEntered result (λ r. IsEntered self.old actor event r.reply self.new) }
-        ensures receipt { IfEntered result (λ r. IsReceipt r event self.old self.new) }
-        ensures room { IfEntered result (λ _. length self.old.journal < self.old.table.entries) }
-        ensures read { IfRead result (λ reply. IsQuiet self.old actor event reply self.new) }
-        ensures refused { IfRefused result (λ why. IsRefusal self.old actor event why) }
-        ensures unchanged { IfRefused result (λ _. self.new ≡ self.old) }
-        ensures cause { (why : Refusal)
-            → cause_of self.old.table actor event ≡ Some why
-            → result ≡ Refused why }
-        ensures full { IsDue self.old actor event
-            → self.old.table.entries ≤ length self.old.journal
-            → result ≡ Refused Refusal.JournalFull }
-        ensures history { IsHistory self.new }
-    {
-        let checked = match check(self.step.table(), actor, &event) {
-            Ok(checked) => checked,
-            Err(why) => return Answer::Refused(why),
-        };
-        match checked {
-            Checked::Quiet(reply) => Answer::Read(reply),
-            Checked::Due(choice) => match self.enter_with_receipt(actor, &event, choice) {
-                Ok(receipt) => Answer::Entered(receipt),
-                Err(why) => Answer::Refused(why),
-            },
-        }
-    }
-
-    /// Makes one call of an actor, as `call`, and gives its reply or its refusal alone.
-    pub fn step(&mut self, actor: u32, event: Event) -> Result<Reply, Refusal>
-        ensures ok { IfOk result (λ reply. IsQuiet self.old actor event reply self.new
-            ⊎ IsEntered self.old actor event reply self.new) }
-        ensures err { IfErr result (λ why. IsRefusal self.old actor event why) }
-        ensures unchanged { OnErr result (self.new ≡ self.old) }
-        ensures cause { (why : Refusal)
-            → cause_of self.old.table actor event ≡ Some why
-            → result ≡ Err why }
-        ensures full { IsDue self.old actor event
-            → self.old.table.entries ≤ length self.old.journal
-            → result ≡ Err Refusal.JournalFull }
-        ensures bounded { AcceptsFew self.old.table self.new.table }
-        ensures history { IsHistory self.new }
-    {
-        match self.call(actor, event) {
-            Answer::Entered(receipt) => Ok(receipt.reply),
-            Answer::Read(reply) => Ok(reply),
-            Answer::Refused(why) => Err(why),
-        }
-    }
-
     /// Gives the answer that `step` would give to a call now if memory is given, and changes nothing.
     pub fn foresee(&self, actor: u32, event: &Event) -> Result<Reply, Refusal>
         ensures foreseen { result ≡ foreseen self.now (call_of actor event.now) }
@@ -406,35 +344,6 @@ impl Kernel {
             return Err(Refusal::JournalFull);
         }
         self.enter(actor, event, choice)
-    }
-
-    /// Makes the entry of an event that is due, with this product's choice, and gives its receipt.
-    #[inline(always)]
-    fn enter_with_receipt(
-        &mut self,
-        actor: u32,
-        event: &Event,
-        choice: Choice,
-    ) -> Result<Receipt, Refusal>
-        requires due { check self.old.table actor event.now ≡ Ok (Due choice) }
-        requires admitted { Permits self.old.table actor event.now choice }
-        ensures entered { IfOk result (λ r. IsEntered self.old actor event.now r.reply self.new) }
-        ensures receipt { IfOk result (λ r. IsReceipt r event.now self.old self.new) }
-        ensures room { OnOk result (length self.old.journal < self.old.table.entries) }
-        ensures err { IfErr result (λ why. IsWithheld self.old why) }
-        ensures unchanged { OnErr result (self.new ≡ self.old) }
-        ensures full { self.old.table.entries ≤ length self.old.journal
-            → result ≡ Err Refusal.JournalFull }
-        ensures history { IsHistory self.new }
-    {
-        let accepted = self.table().accepted();
-        let reply = self.step_as(actor, event, choice)?;
-        Ok(Receipt {
-            position: self.position(),
-            event: *event,
-            reply,
-            accepted: self.table().accepted() - accepted,
-        })
     }
 
     /// Makes the entry of an event that is due. Where memory is refused nothing has changed.

@@ -3,6 +3,7 @@
 
 mod acting;
 mod answers;
+mod calls;
 mod entries;
 mod events;
 mod fates;

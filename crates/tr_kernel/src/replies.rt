@@ -70,10 +70,10 @@ impl Mark {
         ensures told { IfSome result (λ b. (e : Entry) (ws : List WholeReply)
             → told e self ws b ≡ reply.Sent fate number) }
     {
-        let more = number.checked_sub(self.sent)?;
-        if more > u64::from(u8::MAX) {
+        if number < self.sent || number - self.sent > u64::from(u8::MAX) {
             return None;
         }
+        let more = number - self.sent;
         match fate {
             Fate::Pending => Some(BriefReply::Pending(more as u8)),
             Fate::Merged => Some(BriefReply::Merged(more as u8)),

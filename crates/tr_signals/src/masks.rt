@@ -25,7 +25,6 @@ pub fn check_mask(table: &Table, tid: u32, set: SigSet) -> Result<Checked, Refus
 
 /// A setting of a mask that is due: sigprocmask(2) with `SIG_SETMASK`. KILL and STOP stay unblocked. Where memory is
 /// refused, or the numbers are used up, nothing has changed.
-#[inline(always)]
 pub fn mask(step: &mut Step, actor: u32, tid: u32, set: SigSet) -> Result<Reply, AllocError>
     requires due { check step.old.work.table actor (Mask tid set) ≡ Ok (Due no_choice) }
     ensures did { IfOk result (IsStepOf step.old.work.table (entry actor (Mask tid set)) step.new) }
@@ -43,7 +42,6 @@ pub fn check_pause(table: &Table, tid: u32) -> Result<Checked, Refusal>
 
 /// A pause(2) that is due: the thread pauses until it takes a signal that it catches. Where memory is refused, or the
 /// numbers are used up, nothing has changed.
-#[inline(always)]
 pub fn pause(step: &mut Step, actor: u32, tid: u32) -> Result<Reply, AllocError>
     requires due { check step.old.work.table actor (Pause tid) ≡ Ok (Due no_choice) }
     ensures did { IfOk result (IsStepOf step.old.work.table (entry actor (Pause tid)) step.new) }
