@@ -10,6 +10,7 @@ mod pending;
 mod roster;
 mod settling;
 mod starter;
+mod telling;
 
 use std::alloc::{AllocError, Global};
 use std::fmt::Debug;

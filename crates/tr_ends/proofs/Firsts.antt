@@ -1,10 +1,15 @@
 -- The first number of lists joined, the first thread that has a report, and what a filter leaves.
-use Rattle.std.proofs.Common.{◌≡◌, ◌&&◌, ◌∙◌, ℕ, List, [], ◌∷◌, ◌++◌, Bool, true, false, not, ◌||◌, Option, Some, None, filter, find, flat_map, if◌then◌else◌, ap, sym, refl}
+use Rattle.std.proofs.Common.{◌≡◌, ◌&&◌, ◌∙◌, ℕ, List, [], ◌∷◌, ◌++◌, Bool, true, false, not, ◌||◌, Option, Some, None, filter, find, flat_map, if◌then◌else◌, is_some, ap, sym, refl}
 use Rattle.std.specs.List.{list_any}
 use Rattle.std.specs.Option.{option_or}
+use Rattle.tr_wait.specs.Words.{asks_for}
+use Rattle.tr_wait.specs.declared.waits.Which.{Which}
+use Rattle.tr_model.specs.declared.rows.Group.{Group}
+use Rattle.tr_model.specs.StarterWaits.{group_with_note, has_death, with_death}
+use Rattle.tr_model.specs.Tables.{Table, thread_of}
 use Rattle.tr_model.specs.Takes.{is_empty}
 use Rattle.tr_model.specs.Waits.{has_report, report_number, with_report}
-use Rattle.tr_ends.specs.Private.{first_number}
+use Rattle.tr_ends.specs.Private.{first_number, led_among}
 use Rattle.tr_threads.specs.Waits.{is_report}
 use Rattle.tr_tracee.specs.declared.thread.Report.{Report}
 use Rattle.tr_tracee.specs.declared.thread.Thread.{Thread}
@@ -48,6 +53,24 @@ first_told f p x xs = go (p x)
     go : (b : Bool) → first_number (flat_map f (if b then x ∷ filter p xs else filter p xs)) ≡ option_or (first_number (if b then f x else [])) (first_number (flat_map f (filter p xs)))
     go true = first_append (f x) (flat_map f (filter p xs))
     go false = refl
+
+-- the first of these groups whose leader's death, or whose note, has the number
+
+pub death_first : (T : Table) (which : Which) (n : ℕ) (g : Group) (gs : List Group) → with_death T (led_among T which (g ∷ gs)) n ≡ (if (asks_for which g.tgid && is_some (thread_of T g.tgid)) && has_death n (thread_of T g.tgid) then thread_of T g.tgid else with_death T (led_among T which gs) n)
+death_first T which n g gs = go (asks_for which g.tgid && is_some (thread_of T g.tgid))
+  where
+    go : (b : Bool) → with_death T (if b then g ∷ led_among T which gs else led_among T which gs) n ≡ (if b && has_death n (thread_of T g.tgid) then thread_of T g.tgid else with_death T (led_among T which gs) n)
+    go true = refl
+    go false = refl
+
+pub note_first : (p : Group → Bool) (n : ℕ) (g : Group) (gs : List Group) → group_with_note (filter p (g ∷ gs)) n ≡ (if has_report n g.note && p g then Some g else group_with_note (filter p gs) n)
+note_first p n g gs = go (p g) (has_report n g.note) refl
+  where
+    go : (b h : Bool) → has_report n g.note ≡ h → group_with_note (if b then g ∷ filter p gs else filter p gs) n ≡ (if h && b then Some g else group_with_note (filter p gs) n)
+    go true true e = ap (λ h. if h then Some g else group_with_note (filter p gs) n) e
+    go true false e = ap (λ h. if h then Some g else group_with_note (filter p gs) n) e
+    go false true e = refl
+    go false false e = refl
 
 -- the number of the thread's report, if it is there and has one
 abbrev pub number_in : Option Thread → Option ℕ

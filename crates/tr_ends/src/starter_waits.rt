@@ -1,6 +1,6 @@
 //! Waits of the starter of all groups: waitpid(2).
 
-ghost use Rattle.std.specs.Prelude.{◌≡◌, ◌&&◌, ◌||◌, [], if◌then◌else◌, IfOk, OnErr, filter, flat_map, is_some, not, option_copied};
+ghost use Rattle.std.specs.Prelude.{◌≡◌, ℕ, ◌&&◌, ◌||◌, [], if◌then◌else◌, IfOk, OnErr, filter, flat_map, is_some, not, option_copied, true};
 ghost use Rattle.std.specs.List.{list_any};
 ghost use Rattle.tr_wait.specs.Words.{asks_for};
 ghost use Rattle.tr_model.specs.Compare.{Permits};
@@ -8,8 +8,10 @@ ghost use Rattle.tr_model.specs.declared.events.Event.TheVariants.{StarterWait};
 ghost use Rattle.tr_model.specs.Preferred.{check};
 ghost use Rattle.tr_model.specs.Choices.{gives_report};
 ghost use Rattle.tr_model.specs.Tables.{has_traced, thread_of};
+ghost use Rattle.tr_model.specs.Waits.{has_report};
 ghost use Rattle.tr_model.specs.StarterWaits.{consume_note, death_number, has_death, note_number, note_wanted, ready_death, ready_for_starter, ready_note, ready_of_group, shows_note, starter_takes, wanted, with_death, group_with_note};
 ghost use Rattle.tr_threads.specs.Waits.{is_untraced_death};
+ghost use Rattle.tr_table.specs.Telling.{IsNextTelling};
 ghost use Rattle.tr_steps.specs.UnderWay.{IsStepOf, Moves};
 ghost use Rattle.tr_ends.specs.Private.{first_number, led_among};
 
@@ -154,17 +156,51 @@ fn ready_of_led(table: &Table, which: Which, flags: WaitFlags, group: &Group) ->
     }
 }
 
-#[tactic(auto, using(crate::proofs::Firsts::first_told))]
+fn is_for_any(which: Which) -> bool
+    ensures { result ≡ true → (n : ℕ) → asks_for which n ≡ true }
+{
+    match which {
+        Which::Any => true,
+        Which::One(id) => id == 0,
+    }
+}
+
+/// The place of the next of the groups that the wait asks for, from this place on, that may have something to tell. It is
+/// found at once where so many such groups stand before it.
+#[inline(always)]
+fn next_telling(
+    table: &Table,
+    groups: &[Group],
+    which: Which,
+    place: usize,
+    likely: usize,
+) -> Option<usize>
+    requires { groups.now ≡ filter (λ x. asks_for which x.tgid) table.now.table.groups }
+    ensures { IsNextTelling table.now.table groups.now place result }
+{
+    if is_for_any(which) {
+        table.telling_from(place, likely)
+    } else if place < groups.len() {
+        Some(place)
+    } else {
+        None
+    }
+}
+
 fn first_among(table: &Table, groups: &[Group], which: Which, flags: WaitFlags) -> Option<u64>
+    requires { groups.now ≡ filter (λ x. asks_for which x.tgid) table.now.table.groups }
     ensures { result
         ≡ first_number
         (flat_map (ready_of_group table.now.table flags)
         (led_among table.now.table which groups.now)) }
 {
-    for group in groups {
-        if let Some(number) = ready_of_led(table, which, flags, group) {
+    let (mut place, mut met) = (0, 0);
+    while let Some(next) = next_telling(table, groups, which, place, met) {
+        if let Some(number) = ready_of_led(table, which, flags, &groups[next]) {
             return Some(number);
         }
+        place = next + 1;
+        met += 1;
     }
     None
 }
@@ -179,20 +215,33 @@ fn first_for_starter(table: &Table, which: Which, flags: WaitFlags) -> Option<u6
     first_among(table, table.asked_groups(which), which, flags)
 }
 
+fn is_led_death(which: Which, group: &Group, leader: Option<&Thread>, number: u64) -> bool
+    ensures { result
+        ≡ ((asks_for which group.now.tgid && is_some (option_copied leader.entry)) && has_death
+        number (option_copied leader.entry)) }
+{
+    has_leader(which, group, leader) && is_death(leader, number)
+}
+
 fn death_among<'a>(
     table: &'a Table,
     groups: &[Group],
     which: Which,
     number: u64,
 ) -> Option<&'a Thread>
+    requires { groups.now ≡ filter (λ x. asks_for which x.tgid) table.now.table.groups }
     ensures { option_copied result
         ≡ with_death table.now.table (led_among table.now.table which groups.now) number }
 {
-    for group in groups {
+    let (mut place, mut met) = (0, 0);
+    while let Some(next) = next_telling(table, groups, which, place, met) {
+        let group = &groups[next];
         let leader = table.find(group.tgid);
-        if has_leader(which, group, leader) && is_death(leader, number) {
+        if is_led_death(which, group, leader, number) {
             return leader;
         }
+        place = next + 1;
+        met += 1;
     }
     None
 }
@@ -213,6 +262,14 @@ fn shows_note(table: &Table, which: Which, flags: WaitFlags, group: &Group) -> b
     has_leader(which, group, table.find(group.tgid)) && is_note_shown(table, flags, group)
 }
 
+fn has_note(table: &Table, which: Which, flags: WaitFlags, group: &Group, number: u64) -> bool
+    ensures { result
+        ≡ (has_report number group.now.note && shows_note
+        table.now.table which flags group.now) }
+{
+    has_report(&group.note, number) && shows_note(table, which, flags, group)
+}
+
 fn note_among<'a>(
     table: &Table,
     groups: &'a [Group],
@@ -220,13 +277,18 @@ fn note_among<'a>(
     flags: WaitFlags,
     number: u64,
 ) -> Option<&'a Group>
+    requires { groups.now ≡ filter (λ x. asks_for which x.tgid) table.now.table.groups }
     ensures { option_copied result
         ≡ group_with_note (filter (shows_note table.now.table which flags) groups.now) number }
 {
-    for group in groups {
-        if has_report(&group.note, number) && shows_note(table, which, flags, group) {
+    let (mut place, mut met) = (0, 0);
+    while let Some(next) = next_telling(table, groups, which, place, met) {
+        let group = &groups[next];
+        if has_note(table, which, flags, group, number) {
             return Some(group);
         }
+        place = next + 1;
+        met += 1;
     }
     None
 }

@@ -1,7 +1,7 @@
 -- Numbers that rise, each counted as often as it stands there.
 use Rattle.std.proofs.Common.{ltb, ◌≡◌, ◌==◌, ◌+◌, ◌++◌, ◌<◌, ◌≤◌, ◌⊎◌, inl, inr, ℕ, zero, suc, List, [], ◌∷◌, Bool, true, false, not, Result, Ok, Err, is_ok, if◌then◌else◌, length, get_or, remove, arith, refl, ap, sym, eq-eqb, subst}
 use Rattle.std.specs.List.{insert}
-use Rattle.std.specs.List.Sorted.{IsBinarySearchResult, IsNonDecreasing, IsPartitionPoint}
+use Rattle.std.specs.List.Sorted.{IsBinarySearchResult, IsNonDecreasing, IsNonDecreasingBy, IsPartitionPoint}
 use Rattle.std.specs.Ordering.{nat_cmp}
 use Rattle.std.specs.Result.{MatchResult}
 use Rattle.std.proofs.lemmas.Bool.{cases_eq, cases_lt, ltb-false, ltb-true, ne_eqb}
@@ -90,10 +90,10 @@ rises_added xs n i rises le p =
     (λ k d l. let less : get_or xs k d < n = ltb-true _ _ (p.0 k d (omega arith) l) in omega (arith, less))
     (λ k d a b. ltb-false _ _ (p.1 k d a b))
 
-pub rises_gone : (xs : List ℕ) (i : ℕ) → i < length xs → IsNonDecreasing xs → IsNonDecreasing (remove xs i)
-rises_gone xs i h rises j k d le lt = go (cases_lt j i) (cases_lt k i)
+pub rises_gone : {X : Type 0} (n : X → ℕ) (xs : List X) (i : ℕ) → i < length xs → IsNonDecreasingBy n xs → IsNonDecreasingBy n (remove xs i)
+rises_gone n xs i h rises j k d le lt = go (cases_lt j i) (cases_lt k i)
   where
-    go : (j < i) ⊎ (i ≤ j) → (k < i) ⊎ (i ≤ k) → get_or (remove xs i) j d ≤ get_or (remove xs i) k d
+    go : (j < i) ⊎ (i ≤ j) → (k < i) ⊎ (i ≤ k) → n (get_or (remove xs i) j d) ≤ n (get_or (remove xs i) k d)
     go (inl a) (inl b) = rw (get_or-remove_below xs i d j a h, get_or-remove_below xs i d k b h) (rises j k d le (omega (arith, b, h)))
     go (inl a) (inr b) = rw (get_or-remove_below xs i d j a h, get_or-remove_above xs i d k b h) (rises j (k + 1) d (omega (arith, le)) (omega (arith, lt, length-remove xs i h)))
     go (inr a) (inl b) = absurd (omega (arith, a, b, le))

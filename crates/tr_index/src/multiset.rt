@@ -1,7 +1,8 @@
-ghost use Rattle.std.specs.Prelude.{◌≡◌, ℕ, ◌+◌, ◌<◌, ◌≤◌, ◌==◌, [], OnOk, is_some, length, nat_lt, not};
+ghost use Rattle.std.specs.Prelude.{◌≡◌, ℕ, ◌+◌, ◌<◌, ◌≤◌, ◌==◌, [], OnOk, filter, if◌then◌else◌, length, map, nat_lt, not, vec_capacity};
+ghost use Rattle.std.specs.List.Sorted.{IsNonDecreasing};
 ghost use Rattle.tr_model.specs.Journals.{occurs};
 ghost use Rattle.tr_index.specs.Counts.{bool_to_nat};
-ghost use Rattle.tr_index.specs.Multisets.{is_number};
+ghost use Rattle.tr_index.specs.Multisets.{IsNextFrom, lowered};
 
 use std::alloc::{AllocError, Global};
 use std::marker::Model;
@@ -22,6 +23,67 @@ impl Model for Multiset {
     ghost view = { λ t. record { numbers = t.numbers.items; places = vec_capacity t.numbers } };
 
     ghost invariant = { λ t. IsNonDecreasing t.numbers.items };
+}
+
+/// The first of these numbers, which rise, that isn't below this one.
+fn first_from(numbers: &[u32], n: u32) -> Option<u32>
+    requires { IsNonDecreasing numbers.now }
+    ensures { IsNextFrom n numbers.now result }
+{
+    match numbers.first() {
+        None => None,
+        // Mostly it is the first.
+        Some(first) if n <= *first => Some(*first),
+        Some(_) => {
+            let place = numbers.partition_point(|m| *m < n);
+            numbers.get(place).copied()
+        }
+    }
+}
+
+/// The same, looked for at a likely place first.
+#[inline(always)]
+fn first_near(numbers: &[u32], likely: usize, n: u32) -> Option<u32>
+    requires { IsNonDecreasing numbers.now }
+    ensures { IsNextFrom n numbers.now result }
+{
+    if 0 < likely && likely < numbers.len() {
+        let number = numbers[likely];
+        if numbers[likely - 1] < n && n <= number {
+            return Some(number);
+        }
+    }
+    first_from(numbers, n)
+}
+
+fn lower(n: u32, m: u32) -> u32
+    ensures { result ≡ lowered n m }
+{
+    if n < m { m - 1 } else { m }
+}
+
+fn lower_each(numbers: &mut [u32], n: u32)
+    ensures { numbers.new ≡ map (lowered n) numbers.old }
+{
+    for m in numbers.iter_mut() {
+        *m = lower(n, *m);
+    }
+}
+
+/// Lowers the numbers above this one by 1.
+fn lower_above(numbers: &mut Vec<u32>, n: u32)
+    ensures items { numbers.new.items ≡ map (lowered n) numbers.old.items }
+    ensures capacity { vec_capacity numbers.new ≡ vec_capacity numbers.old }
+{
+    lower_each(numbers, n);
+}
+
+/// Drops a number, as often as it is there.
+fn drop_number(numbers: &mut Vec<u32>, n: u32)
+    ensures items { numbers.new.items ≡ filter (λ m. not (m == n)) numbers.old.items }
+    ensures capacity { vec_capacity numbers.new ≡ vec_capacity numbers.old }
+{
+    numbers.retain(|m| *m != n);
 }
 
 impl Multiset {
@@ -50,6 +112,14 @@ impl Multiset {
     {
         // Mostly there is one number alone.
         self.numbers.first() == Some(&n) || self.numbers.binary_search(&n).is_ok()
+    }
+
+    /// Gives the least number counted that isn't below this one, and looks first whether so many numbers stand before it.
+    #[inline(always)]
+    pub fn next_near(&self, likely: usize, n: u32) -> Option<u32>
+        ensures { IsNextFrom n self.now.numbers result }
+    {
+        first_near(&self.numbers, likely, n)
     }
 
     /// Says whether no number is counted.
@@ -109,27 +179,15 @@ impl Multiset {
         }
     }
 
-    /// Counts one that counted as the one number as the other from now on.
-    #[inline(always)]
-    pub fn recount(&mut self, before: Option<u32>, after: Option<u32>)
-        requires counted { (m : ℕ) → bool_to_nat (is_number m before) ≤ occurs m self.old.numbers }
-        requires room { length self.old.numbers + bool_to_nat (is_some after)
-            ≤ self.old.places + bool_to_nat (is_some before) }
+    /// Takes a number out, as often as it is counted, and lowers all that are above it by 1.
+    pub fn close_up(&mut self, n: u32)
         ensures counted { (m : ℕ)
-            → occurs m self.new.numbers + bool_to_nat (is_number m before)
-            ≡ occurs m self.old.numbers + bool_to_nat (is_number m after) }
-        ensures sized { length self.new.numbers + bool_to_nat (is_some before)
-            ≡ length self.old.numbers + bool_to_nat (is_some after) }
+            → occurs m self.new.numbers
+            ≡ occurs (if nat_lt m n then m else m + 1) self.old.numbers }
+        ensures sized { length self.new.numbers ≤ length self.old.numbers }
         ensures places { self.new.places ≡ self.old.places }
     {
-        if before == after {
-            return;
-        }
-        if let Some(n) = before {
-            self.remove(n);
-        }
-        if let Some(n) = after {
-            self.insert(n);
-        }
+        drop_number(&mut self.numbers, n);
+        lower_above(&mut self.numbers, n);
     }
 }

@@ -1,9 +1,7 @@
 //! What becomes of the tracees of a tracer that ends: "PTRACE_O_EXITKILL" and "Attaching and detaching" of ptrace(2).
 
 ghost use Rattle.std.specs.Prelude.{◌≡◌, ◌≤◌, ◌*◌, IfOk, Ok, OnErr, Some, filter, length};
-ghost use Rattle.std.specs.List.{list_any};
 ghost use Rattle.tr_tracee.specs.Lives.{held};
-ghost use Rattle.tr_tracee.specs.Threads.{is_tracee_of};
 ghost use Rattle.tr_model.specs.declared.checked.Checked.TheVariants.{Due};
 ghost use Rattle.tr_model.specs.declared.events.Event.TheVariants.{TracerExit};
 ghost use Rattle.tr_model.specs.Moves.{at, each};
@@ -11,7 +9,8 @@ ghost use Rattle.tr_model.specs.Preferred.{check};
 ghost use Rattle.tr_model.specs.Restarts.{detach};
 ghost use Rattle.tr_model.specs.Tracers.{exit_kill, held_signal, leave_tracer, lose_tracer, tracees};
 ghost use Rattle.tr_model.specs.Choices.{no_choice};
-ghost use Rattle.tr_model.specs.Tables.{ids_of, thread_of};
+ghost use Rattle.tr_model.specs.Tables.{ids_of, thread_in, thread_of};
+ghost use Rattle.tr_threads.specs.Tracing.{passes};
 ghost use Rattle.tr_steps.specs.UnderWay.{IsStepOf, Moves, entry};
 ghost use Rattle.tr_requests.specs.Private.{is_to_kill};
 
@@ -24,10 +23,16 @@ use tr_steps::Step;
 use tr_table::Table;
 use tr_tracee::Thread;
 
-fn is_to_kill(thread: &Thread, actor: u32) -> bool
-    ensures { result ≡ is_to_kill actor thread.now }
+/// Whether the thread with the id is a tracee of the actor that is to be killed as it ends.
+fn is_to_kill(table: &Table, actor: u32, id: u32) -> bool
+    ensures { result ≡ passes (is_to_kill actor) (thread_in table.now.table.threads id) }
 {
-    thread.is_tracee_of(actor) && thread.options().exitkill && !thread.life.is_dead()
+    match table.find(id) {
+        Some(thread) => {
+            thread.is_tracee_of(actor) && thread.options().exitkill && !thread.life.is_dead()
+        }
+        None => false,
+    }
 }
 
 /// The ids of an actor's tracees, in table order.
@@ -35,22 +40,22 @@ fn tracees(table: &Table, alloc: Global, actor: u32) -> Result<Vec<u32>, AllocEr
     ensures { IfOk result (λ v. v.items ≡ ids_of (tracees table.now.table actor)) }
 {
     table
-        .threads()
+        .tracees(actor)
         .iter()
-        .filter(|t| t.is_tracee_of(actor))
-        .map(|t| t.id)
+        .map(|tracee| tracee.id)
         .collect(alloc)
 }
 
 /// The ids of an actor's tracees that are to be killed as it ends, in table order.
+#[tactic(auto, using(crate::proofs::Leaving::killed_by_ids))]
 fn to_kill(table: &Table, alloc: Global, actor: u32) -> Result<Vec<u32>, AllocError>
     ensures { IfOk result (λ v. v.items ≡ ids_of (filter (is_to_kill actor) table.now.table.threads)) }
 {
     table
-        .threads()
+        .tracees(actor)
         .iter()
-        .filter(|t| is_to_kill(t, actor))
-        .map(|t| t.id)
+        .map(|row| row.id)
+        .filter(|id| is_to_kill(table, actor, *id))
         .collect(alloc)
 }
 
@@ -127,20 +132,14 @@ fn leave_each(step: &mut Step, actor: u32, ids: &[u32])
     }
 }
 
-fn has_tracee(threads: &[Thread], actor: u32) -> bool
-    ensures { result ≡ list_any (is_tracee_of actor) threads.now }
-{
-    threads.iter().any(|t| t.is_tracee_of(actor))
-}
-
 /// What the end of a tracer is answered: Nothing where the actor traces no thread, else it is due. It is never refused.
 pub fn check_tracer_exit(table: &Table, actor: u32) -> Result<Checked, Refusal>
     ensures { result ≡ check table.now.table actor TracerExit }
 {
-    if has_tracee(table.threads(), actor) {
-        Ok(Checked::Due(Choice::NONE))
-    } else {
+    if table.tracees(actor).is_empty() {
         Ok(Checked::Quiet(Reply::Nothing))
+    } else {
+        Ok(Checked::Due(Choice::NONE))
     }
 }
 

@@ -173,7 +173,6 @@ pub fn check_interrupt(table: &Table, actor: u32, tid: u32) -> Result<Checked, R
 
 /// An interrupt that is due: `PTRACE_INTERRUPT` sets the trap mark. Where memory is refused, or the numbers are used up,
 /// nothing has changed.
-#[inline(always)]
 pub fn interrupt(step: &mut Step, actor: u32, tid: u32) -> Result<Reply, AllocError>
     requires due { check step.old.work.table actor (Interrupt tid) ≡ Ok (Due no_choice) }
     ensures did { IfOk result

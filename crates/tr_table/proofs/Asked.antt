@@ -8,7 +8,7 @@ use Rattle.tr_tracee.specs.Threads.{is_tracee_of}
 use Rattle.tr_model.specs.Journals.{occurs}
 use Rattle.tr_model.specs.Tables.{ids_of, thread_in}
 use Rattle.tr_threads.specs.Tracing.{if_passes}
-use Rattle.tr_threads.proofs.Reports.{none_found, find_same, find_filter}
+use Rattle.tr_threads.proofs.Reports.{find_same, find_filter}
 
 pub any_by_find : (p : Thread → Bool) (ts : List Thread) → list_any p ts ≡ is_some (find p ts)
 any_by_find p [] = refl
@@ -17,6 +17,18 @@ any_by_find p (t ∷ ts) = go (p t) (any_by_find p ts)
     go : (b : Bool) → list_any p ts ≡ is_some (find p ts) → (b || list_any p ts) ≡ is_some (if b then Some t else find p ts)
     go true h = refl
     go false h = h
+
+none_found : (q : Thread → Bool) (ts : List Thread) → length (filter q ts) ≡ 0 → (p : Thread → Bool) → ((t : Thread) → p t ≡ true → q t ≡ true) → find p ts ≡ None
+none_found q [] h p s = refl
+none_found q (t ∷ ts) h p s = go (q t) (p t) h (s t) (λ k. none_found q ts k p s)
+  where
+    go : (b a : Bool) → length (cond b (t ∷ filter q ts) (filter q ts)) ≡ 0 → (a ≡ true → b ≡ true) → (length (filter q ts) ≡ 0 → find p ts ≡ None) → (if a then Some t else find p ts) ≡ None
+    go true a k w r = absurd (omega (arith, k))
+    go false true k w r = absurd (never (w refl))
+      where
+        never : false ≡ true → ⊥
+        never e = cc
+    go false false k w r = r k
 
 others : (id : ℕ) (ts : List Thread) → occurs id (ids_of ts) ≤ 0 → length (filter (λ t. id == t.id) ts) ≡ 0
 others id [] h = refl

@@ -1,5 +1,5 @@
 -- A list of groups beside its ids and its counts.
-use Rattle.std.proofs.Common.{◌≡◌, ◌==◌, ◌+◌, ◌<◌, ◌≤◌, ◌^◌, ◌||◌, ◌∙◌, ℕ, zero, suc, List, [], ◌∷◌, Bool, true, false, not, Some, None, cond, if◌then◌else◌, filter, is_some, length, map, set, get_or, remove, take, arith, refl, ap, sym, eq-eqb}
+use Rattle.std.proofs.Common.{◌≡◌, ◌==◌, ◌+◌, ◌<◌, ◌≤◌, ◌^◌, ◌||◌, ◌∙◌, ℕ, zero, suc, List, [], ◌∷◌, Bool, true, false, not, Some, None, cond, if◌then◌else◌, filter, is_some, length, map, set, get_or, remove, take, arith, refl, ap, sym, eq-eqb, eqb-true}
 use Rattle.std.specs.List.{list_any}
 use Rattle.std.proofs.lemmas.List.{length-map, length-set, take-map}
 use Rattle.std.proofs.lemmas.List.Edits.{length-remove}
@@ -36,6 +36,22 @@ ids_written : (xs : List Group) (i : ℕ) (d y : Group) → y.tgid ≡ (get_or x
 ids_written [] i d y e h = refl
 ids_written (x ∷ xs) zero d y e h = ap (λ (n : ℕ). n ∷ tgids_of xs) e
 ids_written (x ∷ xs) (suc i) d y e h = ap (λ (ns : List ℕ). x.tgid ∷ ns) (ids_written xs i d y e (omega (arith, h)))
+
+pub ids_changed : (g : ℕ) (f : Group → Group) → ((x : Group) → (f x).tgid ≡ x.tgid) → (xs : List Group) → tgids_of (map (only_group g f) xs) ≡ tgids_of xs
+ids_changed g f kept [] = refl
+ids_changed g f kept (x ∷ xs) = λ i. one (x.tgid == g) i ∷ ids_changed g f kept xs i
+  where
+    one : (b : Bool) → (if b then f x else x).tgid ≡ x.tgid
+    one true = kept x
+    one false = refl
+
+pub ids_first_changed : (g : ℕ) (f : Group → Group) → ((x : Group) → x.tgid ≡ g → (f x).tgid ≡ g) → (xs : List Group) → tgids_of (group_changed g f xs) ≡ tgids_of xs
+ids_first_changed g f kept [] = refl
+ids_first_changed g f kept (x ∷ xs) = go (x.tgid == g) refl (ids_first_changed g f kept xs)
+  where
+    go : (b : Bool) → (x.tgid == g) ≡ b → tgids_of (group_changed g f xs) ≡ tgids_of xs → tgids_of (if b then f x ∷ xs else x ∷ group_changed g f xs) ≡ tgids_of (x ∷ xs)
+    go true e r = let k = eqb-true x.tgid g e in ap (λ (n : ℕ). n ∷ tgids_of xs) (kept x k ∙ sym k)
+    go false e r = ap (λ (ns : List ℕ). x.tgid ∷ ns) r
 
 pub written : (xs : List Group) (ids : List ℕ) (n m k l i : ℕ) (d y : Group) → IsGroups xs ids n m → i < length xs → y.tgid ≡ (get_or xs i d).tgid → k + bool_to_nat (is_stopping (get_or xs i d).group_stop) ≡ n + bool_to_nat (is_stopping y.group_stop)
     → l + bool_to_nat (is_some (get_or xs i d).note) ≡ m + bool_to_nat (is_some y.note) → IsGroups (set xs i y) ids k l
@@ -133,7 +149,7 @@ one_goes g (x ∷ xs) (suc i) d h e once = go (x.tgid == g) once (one_goes g xs 
     go true k r = absurd (omega (arith, k, id_there g xs i d (omega (arith, h)) e))
     go false k r = ap (λ us. x ∷ us) (r (omega (arith, k)))
 
-ids_removed : (xs : List Group) (i : ℕ) → tgids_of (remove xs i) ≡ remove (tgids_of xs) i
+pub ids_removed : (xs : List Group) (i : ℕ) → tgids_of (remove xs i) ≡ remove (tgids_of xs) i
 ids_removed [] zero = refl
 ids_removed [] (suc i) = refl
 ids_removed (x ∷ xs) zero = refl

@@ -7,6 +7,7 @@ pub mod Rosters
 pub mod RowWords
 pub mod SetActions
 pub mod Settling
+pub mod Telling
 pub mod Unsettling
 pub mod Started
 pub mod Asked

@@ -1,8 +1,8 @@
 -- What happens to one group leaves whether another is open.
-use Rattle.std.proofs.Common.{◌≡◌, ◌∙◌, ◌==◌, ◌&&◌, ◌||◌, ◌++◌, ◌+◌, ◌≤◌, ◌⊎◌, inl, inr, ℕ, List, [], ◌∷◌, None, Some, Result, Ok, Err, Option, Bool, true, false, not, map, filter, cond, if◌then◌else◌, length, arith, ap, sym, refl, eq-eqb, true≢false}
+use Rattle.std.proofs.Common.{◌≡◌, ◌∙◌, ◌==◌, ◌&&◌, ◌||◌, ◌++◌, ◌+◌, ◌≤◌, ◌⊎◌, inl, inr, ℕ, List, [], ◌∷◌, None, Some, Result, Ok, Err, Option, Bool, true, false, not, map, filter, cond, if◌then◌else◌, nat_lt, arith, ap, sym, refl, subst, eq-eqb}
 use Rattle.std.specs.Prelude.{OnErr, OnOk, is_some}
 use Rattle.std.specs.List.{list_any}
-use Rattle.std.proofs.lemmas.Bool.{cases_eq, ne_eqb, or_parts}
+use Rattle.std.proofs.lemmas.Bool.{cases_eq, ne_eqb}
 use Rattle.std.proofs.lemmas.Option.{none-some}
 use Rattle.tr_group.specs.GroupStops.{is_stopping}
 use Rattle.tr_tracee.specs.declared.thread.Thread.{Thread}
@@ -12,24 +12,29 @@ use Rattle.tr_model.specs.declared.rows.Group.{Group}
 use Rattle.tr_model.specs.Journals.{occurs}
 use Rattle.tr_model.specs.Moves.{dropped, group_changed, in_leaders_row, only_group, renamed}
 use Rattle.tr_model.specs.Tables.{group_in, group_of_thread, ids_of, stop_of, thread_in}
+use Rattle.tr_index.specs.Places.{place_in}
 use Rattle.tr_table.specs.Order.{IsRoster}
-use Rattle.tr_table.specs.Settled.{NoneBut, can_complete, has_mark, is_open, is_open_row, shows_note, touched}
+use Rattle.tr_table.specs.Private.{IsGone, tgids_of}
+use Rattle.tr_table.specs.Settled.{NoneBut, has_mark, is_listed, is_open, tells, tells_of, touched}
 use Rattle.tr_table.specs.declared.unsettled.Unsettled.{Unsettled}
 use Rattle.tr_table.specs.declared.unsettled.Unsettled.TheVariants.{Anywhere, In, Nowhere}
+use Rattle.tr_table.proofs.GroupLists.{ids_changed, ids_first_changed}
+use Rattle.tr_table.proofs.Telling.{listed_closed_up}
 use Rattle.tr_table.proofs.Rosters.{roster_dropped}
+use Rattle.tr_threads.specs.Waits.{is_untraced_death}
 use Rattle.tr_threads.proofs.ThreadLists.{left, others_left}
 
 -- where nothing but one group has become another, no other has come to be open
-pub moved : (listed : List ℕ) (g : ℕ) (u : Unsettled) (ts us : List Thread) (xs ys : List Group) → ((n : ℕ) → (g ≡ n → ⊥) → is_open us ys listed n ≡ is_open ts xs listed n) → NoneBut u ts xs listed → NoneBut (touched g u) us ys listed
-moved listed g Nowhere ts us xs ys same h = λ n ne. same n ne ∙ h n
-moved listed g (In m) ts us xs ys same h = go (cases_eq m g)
+pub moved : (listed more : ℕ → Bool) (g : ℕ) (u : Unsettled) (ts us : List Thread) (xs ys : List Group) → ((n : ℕ) → (g ≡ n → ⊥) → is_open us ys more n ≡ is_open ts xs listed n) → NoneBut u ts xs listed → NoneBut (touched g u) us ys more
+moved listed more g Nowhere ts us xs ys same h = λ n ne. same n ne ∙ h n
+moved listed more g (In m) ts us xs ys same h = go (cases_eq m g)
   where
-    go : (m ≡ g) ⊎ (m ≡ g → ⊥) → NoneBut (if m == g then In m else Anywhere) us ys listed
+    go : (m ≡ g) ⊎ (m ≡ g → ⊥) → NoneBut (if m == g then In m else Anywhere) us ys more
     go (inl e) = rw (eq-eqb m g e) (λ n ne. same n (λ k. ne (e ∙ k)) ∙ h n ne)
     go (inr e) = rw (ne_eqb m g e) tt
-moved listed g Anywhere ts us xs ys same h = tt
+moved listed more g Anywhere ts us xs ys same h = tt
 
-pub moved_two : (listed : List ℕ) (g h : ℕ) (u : Unsettled) (ts us : List Thread) (xs : List Group) → ((n : ℕ) → (g ≡ n → ⊥) → (h ≡ n → ⊥) → is_open us xs listed n ≡ is_open ts xs listed n) → NoneBut u ts xs listed → NoneBut (touched h (touched g u)) us xs listed
+moved_two : (listed : ℕ → Bool) (g h : ℕ) (u : Unsettled) (ts us : List Thread) (xs : List Group) → ((n : ℕ) → (g ≡ n → ⊥) → (h ≡ n → ⊥) → is_open us xs listed n ≡ is_open ts xs listed n) → NoneBut u ts xs listed → NoneBut (touched h (touched g u)) us xs listed
 moved_two listed g h Nowhere ts us xs same none = go (cases_eq g h)
   where
     go : (g ≡ h) ⊎ (g ≡ h → ⊥) → NoneBut (if g == h then In g else Anywhere) us xs listed
@@ -45,11 +50,30 @@ moved_two listed g h Anywhere ts us xs same none = tt
 
 -- threads
 
-pub by_members : (listed : List ℕ) (ts us : List Thread) (xs : List Group) (n : ℕ) → filter (in_group n) us ≡ filter (in_group n) ts → is_open us xs listed n ≡ is_open ts xs listed n
+-- the group's rows tell what they told
+members_tell : (ts us : List Thread) (n : ℕ) → filter (in_group n) us ≡ filter (in_group n) ts → (xs : List Group) → tells_of us xs n ≡ tells_of ts xs n
+members_tell ts us n e [] = refl
+members_tell ts us n e (x ∷ xs) = go (cases_eq x.tgid n) (members_tell ts us n e xs)
+  where
+    told : List Thread → Bool
+    told ms = is_some x.note && not (list_any is_traced ms) || list_any (λ t. t.id == x.tgid && is_untraced_death t) ms
+
+    go : (x.tgid ≡ n) ⊎ (x.tgid ≡ n → ⊥) → tells_of us xs n ≡ tells_of ts xs n → tells_of us (x ∷ xs) n ≡ tells_of ts (x ∷ xs) n
+    go (inl k) r = rw (eq-eqb x.tgid n k) (λ i. told (subst (λ g. filter (in_group g) us ≡ filter (in_group g) ts) (sym k) e i) || r i)
+    go (inr k) r = rw (ne_eqb x.tgid n k) r
+
+by_members : (listed : ℕ → Bool) (ts us : List Thread) (xs : List Group) (n : ℕ) → filter (in_group n) us ≡ filter (in_group n) ts → is_open us xs listed n ≡ is_open ts xs listed n
 by_members listed ts us xs n e =
-    ap
-    (λ (ms : List Thread). is_stopping (stop_of (group_in xs n)) && not (list_any (λ t. t.stop_mark) ms) || (list_any (λ x. x.tgid == n && is_some x.note) xs && not (list_any is_traced ms)) && occurs n listed == 0)
-    e
+    let stop = ap (λ (ms : List Thread). is_stopping (stop_of (group_in xs n)) && not (list_any (λ t. t.stop_mark) ms)) e in
+    let told = members_tell ts us n e xs in
+    λ i. stop i || told i && not (listed n)
+
+-- no other group's threads have changed
+pub moved_members : (listed : ℕ → Bool) (g : ℕ) (u : Unsettled) (ts us : List Thread) (xs : List Group) → ((n : ℕ) → (g ≡ n → ⊥) → filter (in_group n) us ≡ filter (in_group n) ts) → NoneBut u ts xs listed → NoneBut (touched g u) us xs listed
+moved_members listed g u ts us xs same h = moved listed listed g u ts us xs xs (λ n ne. by_members listed ts us xs n (same n ne)) h
+
+pub moved_two_members : (listed : ℕ → Bool) (g h : ℕ) (u : Unsettled) (ts us : List Thread) (xs : List Group) → ((n : ℕ) → (g ≡ n → ⊥) → (h ≡ n → ⊥) → filter (in_group n) us ≡ filter (in_group n) ts) → NoneBut u ts xs listed → NoneBut (touched h (touched g u)) us xs listed
+moved_two_members listed g h u ts us xs same none = moved_two listed g h u ts us xs (λ n ne other. by_members listed ts us xs n (same n ne other)) none
 
 pub members_changed : (g n : ℕ) (f : Thread → Thread) → ((t : Thread) → (f t).group ≡ t.group) → (g ≡ n → ⊥) → (ts : List Thread) → filter (in_group n) (map (at_group g f) ts) ≡ filter (in_group n) ts
 members_changed g n f kept ne [] = refl
@@ -90,9 +114,9 @@ pub members_more : (n : ℕ) (ts : List Thread) (t : Thread) → (t.group == n) 
 members_more n [] t out = ap (λ (b : Bool). cond b (t ∷ []) []) out
 members_more n (x ∷ ts) t out = ap (λ (us : List Thread). cond (x.group == n) (x ∷ us) us) (members_more n ts t out)
 
-pub grown : {A B : Type 0} (listed : List ℕ) (r : Result A B) (t : Thread) (u : Unsettled) (ts us : List Thread) (xs : List Group) → OnOk r (us ≡ ts ++ t ∷ []) → OnErr r (us ≡ ts) → NoneBut u ts xs listed → NoneBut (touched t.group u) us xs listed
-grown listed (Ok a) t u ts us xs ok err h = moved listed t.group u ts us xs xs (λ n ne. by_members listed ts us xs n (ap (filter (in_group n)) ok ∙ members_more n ts t (ne_eqb t.group n ne))) h
-grown listed (Err b) t u ts us xs ok err h = moved listed t.group u ts us xs xs (λ n ne. by_members listed ts us xs n (ap (filter (in_group n)) err)) h
+pub grown : {A B : Type 0} (listed : ℕ → Bool) (r : Result A B) (t : Thread) (u : Unsettled) (ts us : List Thread) (xs : List Group) → OnOk r (us ≡ ts ++ t ∷ []) → OnErr r (us ≡ ts) → NoneBut u ts xs listed → NoneBut (touched t.group u) us xs listed
+grown listed (Ok a) t u ts us xs ok err h = moved_members listed t.group u ts us xs (λ n ne. (ap (filter (in_group n)) ok ∙ members_more n ts t (ne_eqb t.group n ne))) h
+grown listed (Err b) t u ts us xs ok err h = moved_members listed t.group u ts us xs (λ n ne. (ap (filter (in_group n)) err)) h
 
 pub none_dropped : (id : ℕ) (ts : List Thread) → thread_in ts id ≡ None → dropped id ts ≡ ts
 none_dropped id [] e = refl
@@ -159,23 +183,14 @@ found (x ∷ xs) n = go (x.tgid == n) (found xs n)
     go true r = refl
     go false r = r
 
-pub noted : (xs : List Group) (n : ℕ) → list_any (λ x. x.tgid == n && is_some x.note) xs ≡ list_any (λ x. is_some x.note) (rows xs n)
-noted [] n = refl
-noted (x ∷ xs) n = go (x.tgid == n) (noted xs n)
-  where
-    go : (b : Bool) → list_any (λ x. x.tgid == n && is_some x.note) xs ≡ list_any (λ x. is_some x.note) (rows xs n)
-        → (b && is_some x.note || list_any (λ x. x.tgid == n && is_some x.note) xs) ≡ list_any (λ x. is_some x.note) (cond b (x ∷ rows xs n) (rows xs n))
-    go true r = ap (λ b. is_some x.note || b) r
-    go false r = r
-
 pub same_group : (xs ys : List Group) (n : ℕ) → rows ys n ≡ rows xs n → group_in ys n ≡ group_in xs n
 same_group xs ys n e = found ys n ∙ (ap first e ∙ sym (found xs n))
 
-pub by_group : (listed : List ℕ) (ts : List Thread) (xs ys : List Group) (n : ℕ) → rows ys n ≡ rows xs n → is_open ts ys listed n ≡ is_open ts xs listed n
-by_group listed ts xs ys n e =
+pub by_group : (listed more : ℕ → Bool) (ts : List Thread) (xs ys : List Group) (n : ℕ) → more n ≡ listed n → rows ys n ≡ rows xs n → is_open ts ys more n ≡ is_open ts xs listed n
+by_group listed more ts xs ys n at e =
     let stop = ap (λ o. is_stopping (stop_of o) && not (has_mark ts n)) (same_group xs ys n e) in
-    let note = ap (λ b. (b && not (list_any is_traced (filter (in_group n) ts))) && occurs n listed == 0) (noted ys n ∙ (ap (list_any (λ (x : Group). is_some x.note)) e ∙ sym (noted xs n))) in
-    λ i. stop i || note i
+    let told = ap (list_any (tells ts)) e in
+    λ i. stop i || told i && not (at i)
 
 pub elsewhere : (g n : ℕ) (f : Group → Group) → ((x : Group) → (f x).tgid ≡ x.tgid) → (g ≡ n → ⊥) → (xs : List Group) → rows (map (only_group g f) xs) n ≡ rows xs n
 elsewhere g n f kept ne [] = refl
@@ -199,6 +214,17 @@ first_elsewhere g n f kept ne (x ∷ xs) = go (cases_eq x.tgid g) (first_elsewhe
         rw (eq-eqb x.tgid g e, out, still) refl
     go (inr e) rest = rw (ne_eqb x.tgid g e) (ap (λ us. cond (x.tgid == n) (x ∷ us) us) rest)
 
+module _ (places : List ℕ) (g : ℕ) (u : Unsettled) (f : Group → Group) (ts : List Thread) (xs : List Group) (none : NoneBut u ts xs (is_listed xs places)) where
+  -- the group is written, and keeps its id and its place
+  written : (ys : List Group) → tgids_of ys ≡ tgids_of xs → ((n : ℕ) → (g ≡ n → ⊥) → rows ys n ≡ rows xs n) → NoneBut (touched g u) ts ys (is_listed ys places)
+  written ys e same = moved (is_listed xs places) (is_listed ys places) g u ts ts xs ys (λ n ne. by_group (is_listed xs places) (is_listed ys places) ts xs ys n (ap (λ (ids : List ℕ). not (occurs (place_in n ids) places == 0)) e) (same n ne)) none
+
+  pub moved_changed : ((x : Group) → (f x).tgid ≡ x.tgid) → NoneBut (touched g u) ts (map (only_group g f) xs) (is_listed (map (only_group g f) xs) places)
+  moved_changed kept = written (map (only_group g f) xs) (ids_changed g f kept xs) (λ n ne. elsewhere g n f kept ne xs)
+
+  pub moved_first_changed : ((x : Group) → x.tgid ≡ g → (f x).tgid ≡ g) → NoneBut (touched g u) ts (group_changed g f xs) (is_listed (group_changed g f xs) places)
+  moved_first_changed kept = written (group_changed g f xs) (ids_first_changed g f kept xs) (λ n ne. first_elsewhere g n f kept ne xs)
+
 pub others_there : (g n : ℕ) (b : Bool) → (g ≡ n → ⊥) → (xs : List Group) → rows (filter (λ x. not (x.tgid == g) || b) xs) n ≡ rows xs n
 others_there g n b ne [] = refl
 others_there g n b ne (x ∷ xs) = go (cases_eq x.tgid g) b (others_there g n b ne xs)
@@ -210,68 +236,11 @@ others_there g n b ne (x ∷ xs) = go (cases_eq x.tgid g) b (others_there g n b 
         rw (eq-eqb x.tgid g e, out) rest
     go (inr e) b rest = rw (ne_eqb x.tgid g e) (ap (λ us. cond (x.tgid == n) (x ∷ us) us) rest)
 
--- what a look at the groups tells
-
-stops_left : (g : ℕ) (ts : List Thread) (listed : List ℕ) (xs : List Group) → list_any (is_open_row ts listed) xs ≡ false → can_complete ts xs g ≡ false
-stops_left g ts listed [] h = refl
-stops_left g ts listed (x ∷ xs) h = let p = or_parts _ _ h in go (cases_eq x.tgid g) (or_parts _ _ p.0).0 (stops_left g ts listed xs p.1)
-  where
-    go : (x.tgid ≡ g) ⊎ (x.tgid ≡ g → ⊥) → (is_stopping x.group_stop && not (has_mark ts x.tgid)) ≡ false → can_complete ts xs g ≡ false → can_complete ts (x ∷ xs) g ≡ false
-    go (inl e) k r = rw (eq-eqb x.tgid g e) (ap (λ n. is_stopping x.group_stop && not (has_mark ts n)) (sym e) ∙ k)
-    go (inr e) k r = rw (ne_eqb x.tgid g e) r
-
-either : (a b c d : Bool) → ((a && c) && d) ≡ false → ((b && c) && d) ≡ false → (((a || b) && c) && d) ≡ false
-either true b c d h k = h
-either false b c d h k = k
-
-notes_left : (g : ℕ) (ts : List Thread) (listed : List ℕ) (xs : List Group) → list_any (is_open_row ts listed) xs ≡ false → (shows_note ts xs g && occurs g listed == 0) ≡ false
-notes_left g ts listed [] h = refl
-notes_left g ts listed (x ∷ xs) h = let p = or_parts _ _ h in go (cases_eq x.tgid g) (or_parts _ _ p.0).1 (notes_left g ts listed xs p.1)
-  where
-    alone : ℕ → Bool
-    alone n = (is_some x.note && not (list_any is_traced (filter (in_group n) ts))) && occurs n listed == 0
-
-    go : (x.tgid ≡ g) ⊎ (x.tgid ≡ g → ⊥) → alone x.tgid ≡ false → (shows_note ts xs g && occurs g listed == 0) ≡ false → (shows_note ts (x ∷ xs) g && occurs g listed == 0) ≡ false
-    go (inl e) k r = rw (eq-eqb x.tgid g e) (either (is_some x.note) (list_any (λ y. y.tgid == g && is_some y.note) xs) (not (list_any is_traced (filter (in_group g) ts))) (occurs g listed == 0) (ap alone (sym e) ∙ k) r)
-    go (inr e) k r = rw (ne_eqb x.tgid g e) r
-
--- no group is open where no row is
-pub nowhere_left : (ts : List Thread) (xs : List Group) (listed : List ℕ) → list_any (is_open_row ts listed) xs ≡ false → NoneBut Nowhere ts xs listed
-nowhere_left ts xs listed none g = ap (λ b. b || shows_note ts xs g && occurs g listed == 0) (stops_left g ts listed xs none) ∙ notes_left g ts listed xs none
-
--- with an empty list no group shows a note, and with no note at all neither
-
-both_off : (a b c : Bool) → ((a || b) && c) ≡ false → ((a && c) ≡ false) × ((b && c) ≡ false)
-both_off true b true e = absurd (true≢false e)
-both_off true true false e = (refl, refl)
-both_off true false false e = (refl, refl)
-both_off false b c e = (refl, e)
-
-pub unshown : (ts : List Thread) (xs : List Group) → ((g : ℕ) → shows_note ts xs g ≡ false) → list_any (λ x. is_some x.note && not (list_any is_traced (filter (in_group x.tgid) ts))) xs ≡ false
-unshown ts [] h = refl
-unshown ts (x ∷ xs) h =
-    let here : (is_some x.note && not (list_any is_traced (filter (in_group x.tgid) ts))) ≡ false =
-    ap (λ b. (b && is_some x.note) && not (list_any is_traced (filter (in_group x.tgid) ts))) (sym (eq-eqb x.tgid x.tgid refl)) ∙ (both_off (x.tgid == x.tgid && is_some x.note) (list_any (λ y. y.tgid == x.tgid && is_some y.note) xs) (not (list_any is_traced (filter (in_group x.tgid) ts))) (h x.tgid)).0 in
-    ap (λ b. b || list_any (λ y. is_some y.note && not (list_any is_traced (filter (in_group y.tgid) ts))) xs) here ∙ unshown ts xs (λ g. (both_off (x.tgid == g && is_some x.note) (list_any (λ y. y.tgid == g && is_some y.note) xs) (not (list_any is_traced (filter (in_group g) ts))) (h g)).1)
-
-pub noteless : (ts : List Thread) (xs : List Group) → list_any (λ x. is_some x.note) xs ≡ false → (g : ℕ) → shows_note ts xs g ≡ false
-noteless ts [] h g = refl
-noteless ts (x ∷ xs) h g =
-    let p = or_parts _ _ h in
-    let out : (x.tgid == g && is_some x.note) ≡ false = ap (λ b. x.tgid == g && b) p.0 ∙ and_false (x.tgid == g) in
-    ap (λ b. (b || list_any (λ y. y.tgid == g && is_some y.note) xs) && not (list_any is_traced (filter (in_group g) ts))) out ∙ noteless ts xs p.1 g
-  where
-    and_false : (b : Bool) → (b && false) ≡ false
-    and_false true = refl
-    and_false false = refl
-
-none_of : (ns : List ℕ) (g : ℕ) → length ns ≡ 0 → occurs g ns ≡ 0
-none_of [] g e = refl
-none_of (n ∷ ns) g e = absurd (omega (arith, e))
-
-pub unlisted : (ts : List Thread) (xs : List Group) (listed : List ℕ) → length listed ≡ 0 → NoneBut Nowhere ts xs listed → (g : ℕ) → shows_note ts xs g ≡ false
-unlisted ts xs listed e h g = go (shows_note ts xs g) (ap (λ (n : ℕ). shows_note ts xs g && n == 0) (sym (none_of listed g e)) ∙ (or_parts _ _ (h g)).1)
-  where
-    go : (b : Bool) → (b && true) ≡ false → b ≡ false
-    go true k = k
-    go false k = refl
+-- the group goes, and the places after its own close up
+pub moved_gone : (before after : List ℕ) (g : ℕ) (u : Unsettled) (b : Bool) (ts : List Thread) (xs ys : List Group) (i : ℕ) → ys ≡ filter (λ x. not (x.tgid == g) || b) xs → IsGone g xs ys (Some i)
+    → ((m : ℕ) → occurs m after ≡ occurs (if nat_lt m i then m else m + 1) before) → NoneBut u ts xs (is_listed xs before) → NoneBut (touched g u) ts ys (is_listed ys after)
+moved_gone before after g u b ts [] ys i kept gone closed none = absurd (omega (arith, gone.0))
+moved_gone before after g u b ts (x ∷ xs) ys i kept gone closed none =
+    moved (is_listed (x ∷ xs) before) (is_listed ys after) g u ts ts (x ∷ xs) ys (λ n ne. by_group (is_listed (x ∷ xs) before) (is_listed ys after) ts (x ∷ xs) ys n (
+    ap (λ (zs : List Group). is_listed zs after n) gone.2 ∙ listed_closed_up (x ∷ xs) i x g n before after gone.0 (gone.1 x) ne closed
+    ) (ap (λ (zs : List Group). rows zs n) kept ∙ others_there g n b ne (x ∷ xs))) none

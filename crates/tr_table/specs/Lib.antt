@@ -5,6 +5,7 @@ pub mod Choices
 pub mod Queues
 pub mod Rows
 pub mod Settled
+pub mod Telling
 pub mod Asked
 pub mod Private
 pub mod Snapshots

@@ -8,7 +8,7 @@ use Rattle.tr_queues.specs.Slots.{IsPending, standing}
 use Rattle.tr_model.specs.Journals.{AllUpTo, occurs}
 use Rattle.tr_model.specs.Tables.{ids_of}
 use Rattle.tr_table.specs.declared.unsettled.Unsettled.{Unsettled}
-use Rattle.tr_table.specs.Settled.{NoneBut}
+use Rattle.tr_table.specs.Settled.{NoneBut, is_listed}
 
 -- what waits is kept as it should be, and was accepted
 pub record IsOrdered (pending : Pending) (accepted : ℕ) : Type 0 where
@@ -21,8 +21,8 @@ pub record IsRoster (threads : List Thread) : Type 0 where
   pub few : (g : ℕ) → length (filter (in_group g) threads) ≤ 64
 
 -- no group comes after the start, and a start has at most 1,024; what is told unsettled is all that may be
-pub record IsTable (threads : List Thread) (groups : List Group) (pending : Pending) (accepted : ℕ) (unsettled : Unsettled) (listed : List ℕ) : Type 0 where
+pub record IsTable (threads : List Thread) (groups : List Group) (pending : Pending) (accepted : ℕ) (unsettled : Unsettled) (telling : List ℕ) : Type 0 where
   pub roster : IsRoster threads
   pub few : length groups ≤ 1024
   pub ordered : IsOrdered pending accepted
-  pub settled : NoneBut unsettled threads groups listed
+  pub settled : NoneBut unsettled threads groups (is_listed groups telling)

@@ -5,7 +5,7 @@ ghost use Rattle.tr_model.specs.Journals.{occurs};
 ghost use Rattle.tr_model.specs.Moves.{group_changed, only_group, with_note};
 ghost use Rattle.tr_model.specs.Tables.{group_in};
 ghost use Rattle.tr_table.specs.Changes.{group_changed_by};
-ghost use Rattle.tr_table.specs.Private.{IsGroupPlace, stopping_in, tgids_of};
+ghost use Rattle.tr_table.specs.Private.{IsGone, IsGroupPlace, stopping_in, tgids_of};
 
 use crate::groups::{GroupChange, count_noted, count_stopping};
 use std::alloc::{AllocError, Global};
@@ -106,7 +106,15 @@ impl Groups {
         self.noted != 0
     }
 
-    fn place(&self, tgid: u32) -> Option<usize>
+    /// How many groups there are. No two have one id.
+    pub(crate) fn len(&self) -> usize
+        ensures len { result ≡ length self.now }
+        ensures once { (n : ℕ) → occurs n (tgids_of self.now) ≤ 1 }
+    {
+        self.index.len()
+    }
+
+    pub(crate) fn place(&self, tgid: u32) -> Option<usize>
         ensures place { IsGroupPlace tgid self.now result }
         ensures once { (n : ℕ) → occurs n (tgids_of self.now) ≤ 1 }
     {
@@ -176,19 +184,20 @@ impl Groups {
         }
     }
 
-    /// The group with the id goes where it has no threads.
-    pub(crate) fn drop_empty(&mut self, threads: &Threads, tgid: u32)
-        ensures { self.new
+    /// The group with the id goes where it has no threads. Gives the place that it had.
+    pub(crate) fn drop_empty(&mut self, threads: &Threads, tgid: u32) -> Option<usize>
+        ensures kept { self.new
             ≡ filter (λ x. not (x.tgid == tgid) || list_any (in_group tgid) threads.now) self.old }
+        ensures gone { IsGone tgid self.old self.new result }
     {
         if threads.has_member(tgid) {
-            return;
+            return None;
         }
-        if let Some(place) = self.place(tgid) {
-            let gone = self.list.remove(place);
-            self.index.remove(place);
-            self.stopping = recounted(self.stopping, gone.group_stop.is_stopping(), false);
-            self.noted = recounted(self.noted, gone.note.is_some(), false);
-        }
+        let place = self.place(tgid)?;
+        let gone = self.list.remove(place);
+        self.index.remove(place);
+        self.stopping = recounted(self.stopping, gone.group_stop.is_stopping(), false);
+        self.noted = recounted(self.noted, gone.note.is_some(), false);
+        Some(place)
     }
 }

@@ -32,8 +32,8 @@ impl Table {
     {
         let threads = started_threads(start.groups.as_slice(), alloc)?;
         let groups = Groups::from_vec(started_groups(start.groups.as_slice(), alloc)?, alloc)?;
-        let mut noted = Multiset::new(alloc);
-        noted.reserve(start.groups.as_slice().len())?;
+        let mut telling = Multiset::new(alloc);
+        telling.reserve(start.groups.as_slice().len())?;
         Ok(Table {
             threads,
             groups,
@@ -43,7 +43,7 @@ impl Table {
             limit: start.limit,
             entries: start.entries,
             unsettled: Unsettled::Anywhere,
-            noted,
+            telling,
         })
     }
 }

@@ -63,8 +63,10 @@ impl Table {
         ensures { self.new
             ≡ record self.old { table = (drop_empty tgid (begin self.old.table)).table } }
     {
-        self.groups.drop_empty(&self.threads, tgid);
         self.unsettled.touch(tgid);
+        if let Some(place) = self.groups.drop_empty(&self.threads, tgid) {
+            self.telling.close_up(place as u32);
+        }
     }
 
     /// An execing thread takes the place and the id of its dead leader, whose record goes, and what waits for it goes with

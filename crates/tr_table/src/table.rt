@@ -22,8 +22,8 @@ pub struct Table {
     pub(crate) limit: u32,
     pub(crate) entries: u32,
     pub(crate) unsettled: Unsettled,
-    /// The groups that show a note for the starter, and maybe more, but for those that are unsettled.
-    pub(crate) noted: Multiset,
+    /// The places of the groups that have something to tell the starter, and maybe of more, but for those that are unsettled.
+    pub(crate) telling: Multiset,
 }
 
 impl Model for Table {
@@ -38,7 +38,7 @@ impl Model for Table {
       room = t.pending.room;
     } };
 
-    ghost invariant = { λ t. IsTable t.threads t.groups t.pending t.accepted t.unsettled t.noted.numbers };
+    ghost invariant = { λ t. IsTable t.threads t.groups t.pending t.accepted t.unsettled t.telling.numbers };
 }
 
 impl Drop for Table {
@@ -52,7 +52,7 @@ impl Drop for Table {
             limit: _,
             entries: _,
             unsettled: _,
-            noted: _,
+            telling: _,
         } = self;
     }
 }

@@ -1,14 +1,16 @@
-ghost use Rattle.std.specs.Prelude.{◌≡◌, ℕ, filter, find, option_copied};
+ghost use Rattle.std.specs.Prelude.{◌≡◌, ℕ, filter, find, map, option_copied};
 ghost use Rattle.std.specs.List.{list_any};
 ghost use Rattle.tr_wait.specs.Words.{asks_for};
 ghost use Rattle.tr_tracee.specs.Threads.{is_tracee_of};
+ghost use Rattle.tr_model.specs.Journals.{DistinctIds};
+ghost use Rattle.tr_model.specs.Tables.{ids_of};
 ghost use Rattle.tr_model.specs.Waits.{asked_tracees};
 ghost use Rattle.tr_threads.specs.Tracing.{if_passes};
 ghost use Rattle.tr_table.specs.Asked.{is_asked};
 ghost use Rattle.tr_threads.specs.Waits.{is_report};
 
 use crate::table::Table;
-use tr_threads::with_report;
+use tr_threads::{Listed, with_report};
 use tr_tracee::Thread;
 use tr_wait::Which;
 
@@ -25,6 +27,15 @@ impl Table {
             Some(id) => self.threads.tracee(actor, id).is_some(),
             None => self.threads.has_tracee(actor),
         }
+    }
+
+    /// Lends the actor's tracees, by their ids, in table order.
+    pub fn tracees(&self, actor: u32) -> &[Listed]
+        ensures ids { map (λ l. l.id) result.now
+            ≡ ids_of (filter (is_tracee_of actor) self.now.table.threads) }
+        ensures distinct { DistinctIds self.now.table }
+    {
+        self.threads.tracees(actor)
     }
 
     /// The first, in table order, of the actor's tracees that the wait asks for that has a report, and that of the number

@@ -1,14 +1,16 @@
-ghost use Rattle.std.specs.Prelude.{◌≡◌, ℕ, ◌==◌, ◌&&◌, ◌||◌, false, is_some, not};
+ghost use Rattle.std.specs.Prelude.{◌≡◌, ℕ, ◌<◌, ◌≤◌, ◌==◌, ◌&&◌, ◌||◌, false, is_some, length, not, true};
 ghost use Rattle.std.specs.List.{list_any};
 ghost use Rattle.tr_model.specs.Journals.{occurs};
-ghost use Rattle.tr_model.specs.Tables.{has_traced};
-ghost use Rattle.tr_table.specs.Settled.{NoStopBut, can_complete, is_open_row, shows_note, touched};
+ghost use Rattle.tr_model.specs.Tables.{has_traced, ids_of};
+ghost use Rattle.tr_table.specs.declared.unsettled.Unsettled.TheVariants.{Nowhere};
+ghost use Rattle.tr_table.specs.Settled.{NoStopBut, NoneBut, can_complete, is_listed, is_open_row, leader_died, tells, tells_of, touched};
 
+use crate::group_list::Groups;
 use crate::groups::stop_in;
 use crate::table::Table;
 use tr_index::Multiset;
 use tr_model::Group;
-use tr_threads::Threads;
+use tr_threads::{Threads, is_untraced_death};
 
 // Which groups have to be looked at, since their stops may be complete ("Group-stop" of ptrace(2)) or the starter may have
 // to be told of them (waitpid(2)). No call here takes memory.
@@ -39,51 +41,117 @@ impl Unsettled {
             Unsettled::Anywhere => {}
         }
     }
-}
 
-fn some_noted(groups: &[Group]) -> bool
-    ensures { result ≡ list_any (λ x. is_some x.note) groups.now }
-{
-    groups.iter().any(|g| g.note.is_some())
-}
-
-/// Whether one of the groups can be complete, or shows a note and isn't listed.
-fn some_open(threads: &Threads, groups: &[Group], listed: &Multiset) -> bool
-    ensures { result ≡ list_any (is_open_row threads.now listed.now.numbers) groups.now }
-{
-    groups.iter().any(|g| {
-        g.group_stop.is_stopping() && !threads.has_stop_mark(g.tgid)
-            || g.note.is_some() && !threads.has_traced(g.tgid) && !listed.contains(g.tgid)
-    })
-}
-
-/// Lists the groups that show a note, as far as there are places.
-fn list_notes(threads: &Threads, groups: &[Group], listed: &mut Multiset) {
-    listed.clear();
-    for group in groups {
-        if group.note.is_some() && !threads.has_traced(group.tgid) && listed.has_room() {
-            listed.insert(group.tgid);
+    /// Whether nothing has happened to any group.
+    pub(crate) fn is_nowhere(&self) -> bool
+        ensures { result ≡ true → self.now ≡ Unsettled.Nowhere }
+    {
+        match self {
+            Unsettled::Nowhere => true,
+            _ => false,
         }
     }
 }
 
-/// Lists a group, or lists it no more, and says whether it is listed where it should be.
-fn relist(listed: &mut Multiset, tgid: u32, shows: bool) -> bool
-    ensures others { (m : ℕ)
-        → (tgid == m) ≡ false
-        → occurs m listed.new.numbers ≡ occurs m listed.old.numbers }
-    ensures own { result ≡ (not shows || not (occurs tgid listed.new.numbers == 0)) }
+/// Whether the leader of a group died, and its death is the starter's to be told.
+fn leader_died(threads: &Threads, tgid: u32) -> bool
+    requires { (n : ℕ) → occurs n (ids_of threads.now) ≤ 1 }
+    ensures { result ≡ leader_died threads.now tgid }
 {
-    let was = listed.contains(tgid);
-    if was == shows {
+    if !threads.has_untraced_deaths() {
+        return false;
+    }
+    match threads.find(tgid) {
+        Some(leader) => leader.group == tgid && is_untraced_death(leader),
+        None => false,
+    }
+}
+
+/// Whether a group has something to tell the starter.
+fn tells(threads: &Threads, group: &Group) -> bool
+    requires { (n : ℕ) → occurs n (ids_of threads.now) ≤ 1 }
+    ensures { result ≡ tells threads.now group.now }
+{
+    group.note.is_some() && !threads.has_traced(group.tgid) || leader_died(threads, group.tgid)
+}
+
+fn some_tells(threads: &Threads, groups: &[Group]) -> bool
+    requires { (n : ℕ) → occurs n (ids_of threads.now) ≤ 1 }
+    ensures { result ≡ list_any (tells threads.now) groups.now }
+{
+    groups.iter().any(|g| tells(threads, g))
+}
+
+/// Whether a group can be complete, or has something to tell and isn't listed.
+fn is_open(threads: &Threads, group: &Group, listed: bool) -> bool
+    requires { (n : ℕ) → occurs n (ids_of threads.now) ≤ 1 }
+    ensures { result ≡ is_open_row threads.now listed group.now }
+{
+    group.group_stop.is_stopping() && !threads.has_stop_mark(group.tgid)
+        || tells(threads, group) && !listed
+}
+
+/// Whether no group is open, where those at these places are listed.
+fn none_open(threads: &Threads, groups: &Groups, places: &Multiset) -> bool
+    requires once { (n : ℕ) → occurs n (ids_of threads.now) ≤ 1 }
+    requires few { length groups.now ≤ 1024 }
+    ensures { result ≡ true
+        → NoneBut Nowhere threads.now groups.now (is_listed groups.now places.now.numbers) }
+{
+    let list = groups.as_slice();
+    for place in 0..groups.len() {
+        if is_open(threads, &list[place], places.contains(place as u32)) {
+            return false;
+        }
+    }
+    true
+}
+
+/// Lists the places of the groups that have something to tell, as far as there is room.
+fn list_telling(threads: &Threads, groups: &[Group], places: &mut Multiset)
+    requires once { (n : ℕ) → occurs n (ids_of threads.now) ≤ 1 }
+    requires few { length groups.now ≤ 1024 }
+{
+    places.clear();
+    for place in 0..groups.len() {
+        if places.has_room() && tells(threads, &groups[place]) {
+            places.insert(place as u32);
+        }
+    }
+}
+
+/// Lists a place, or lists it no more, and says whether it is listed where it should be.
+fn relist(places: &mut Multiset, place: u32, tells: bool) -> bool
+    ensures others { (m : ℕ)
+        → (place == m) ≡ false
+        → occurs m places.new.numbers ≡ occurs m places.old.numbers }
+    ensures own { result ≡ (not tells || not (occurs place places.new.numbers == 0)) }
+{
+    let was = places.contains(place);
+    if was == tells {
         return true;
     }
     if was {
-        listed.remove(tgid);
-    } else if listed.has_room() {
-        listed.insert(tgid);
+        places.remove(place);
+    } else if places.has_room() {
+        places.insert(place);
     }
-    !shows || listed.contains(tgid)
+    !tells || places.contains(place)
+}
+
+/// The same for the place of the group with the id.
+fn relist_group(places: &mut Multiset, groups: &Groups, tgid: u32, tells: bool) -> bool
+    requires { length groups.now ≤ 1024 }
+    ensures others { (n : ℕ)
+        → (tgid ≡ n → ⊥)
+        → is_listed groups.now places.new.numbers n ≡ is_listed groups.now places.old.numbers n }
+    ensures own { result ≡ true
+        → (tells && not (is_listed groups.now places.new.numbers tgid)) ≡ false }
+{
+    match groups.place(tgid) {
+        Some(place) => relist(places, place as u32, tells),
+        None => !tells,
+    }
 }
 
 impl Table {
@@ -104,7 +172,7 @@ impl Table {
             ≡ false }
     {
         match self.unsettled {
-            Unsettled::Nowhere => !self.noted.is_empty(),
+            Unsettled::Nowhere => !self.telling.is_empty(),
             _ => self.groups.has_notes(),
         }
     }
@@ -115,13 +183,13 @@ impl Table {
         stop_in(&self.groups, tgid).is_stopping() && !self.threads.has_stop_mark(tgid)
     }
 
-    fn shows_note(&self, tgid: u32) -> bool
-        ensures { result ≡ shows_note self.now.table.threads self.now.table.groups tgid }
+    fn tells_of(&self, tgid: u32) -> bool
+        ensures { result ≡ tells_of self.now.table.threads self.now.table.groups tgid }
     {
-        if !self.groups.has_notes() {
+        if !self.groups.has_notes() && !self.threads.has_untraced_deaths() {
             return false;
         }
-        some_noted(self.groups.with_id(tgid)) && !self.threads.has_traced(tgid)
+        some_tells(&self.threads, self.groups.with_id(tgid))
     }
 
     /// Looks at the groups that something happened to, so that none of them has to be looked at again.
@@ -129,7 +197,11 @@ impl Table {
     pub fn settle(&mut self)
         ensures { self.new ≡ self.old }
     {
-        if self.groups.stopping() == 0 && !self.groups.has_notes() && self.noted.is_empty() {
+        if self.groups.stopping() == 0
+            && !self.groups.has_notes()
+            && !self.threads.has_untraced_deaths()
+            && self.telling.is_empty()
+        {
             self.unsettled = Unsettled::Nowhere;
         } else {
             self.settle_touched();
@@ -145,14 +217,14 @@ impl Table {
             Unsettled::Nowhere => {}
             Unsettled::In(tgid) => {
                 let completes = self.can_complete(tgid);
-                let shows = self.shows_note(tgid);
-                if relist(&mut self.noted, tgid, shows) && !completes {
+                let tells = self.tells_of(tgid);
+                if relist_group(&mut self.telling, &self.groups, tgid, tells) && !completes {
                     self.unsettled = Unsettled::Nowhere;
                 }
             }
             Unsettled::Anywhere => {
-                list_notes(&self.threads, self.groups.as_slice(), &mut self.noted);
-                if !some_open(&self.threads, self.groups.as_slice(), &self.noted) {
+                list_telling(&self.threads, self.groups.as_slice(), &mut self.telling);
+                if none_open(&self.threads, &self.groups, &self.telling) {
                     self.unsettled = Unsettled::Nowhere;
                 }
             }

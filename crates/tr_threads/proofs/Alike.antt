@@ -15,7 +15,7 @@ use Rattle.tr_threads.specs.Changes.{continued_by, thread_changed_by}
 use Rattle.tr_threads.specs.Rosters.{CountAlike, HaveSameWords}
 use Rattle.tr_threads.specs.Rows.{blocked_word, runnable_word}
 use Rattle.tr_threads.specs.Tracing.{tracer, waiter}
-use Rattle.tr_threads.specs.Waits.{is_untraced_death}
+use Rattle.tr_threads.specs.Waits.{is_stray_death, is_untraced_death}
 use Rattle.tr_threads.specs.declared.thread_changes.ThreadChange.TheVariants as change
 
 -- the changes of marks
@@ -45,20 +45,20 @@ dead_noted (life.InStop (stop.Signal i came)) = refl
 dead_noted _ = refl
 
 pub pause_stands : (p : Bool) (t : Thread) → StandAlike t (paused p t)
-pause_stands p t = record { mask = refl; live = refl; dead = refl; trace = refl }
+pause_stands p t = record { mask = refl; live = refl; dead = refl; trace = refl; leader = refl }
 
 pub mark_stands : (t : Thread) → StandAlike t (thread_changed_by change.Mark t)
-mark_stands t = record { mask = refl; live = refl; dead = refl; trace = refl }
+mark_stands t = record { mask = refl; live = refl; dead = refl; trace = refl; leader = refl }
 
 pub join_stands : (t : Thread) → StandAlike t (thread_changed_by change.Join t)
-join_stands t = record { mask = refl; live = refl; dead = refl; trace = refl }
+join_stands t = record { mask = refl; live = refl; dead = refl; trace = refl; leader = refl }
 
 pub halt_stands : (t : Thread) → StandAlike t (thread_changed_by change.Halt t)
-halt_stands t = record { mask = refl; live = live_stopped t.life; dead = dead_stopped t.life; trace = refl }
+halt_stands t = record { mask = refl; live = live_stopped t.life; dead = dead_stopped t.life; trace = refl; leader = refl }
 
 pub continue_stands : (in_effect : Bool) (t : Thread) → StandAlike t (continued_by in_effect t)
-continue_stands true t = record { mask = refl; live = live_noted t.life ∙ live_continued (cont_noted_life t.life); dead = dead_noted t.life ∙ dead_continued (cont_noted_life t.life); trace = refl }
-continue_stands false t = record { mask = refl; live = live_noted t.life; dead = dead_noted t.life; trace = refl }
+continue_stands true t = record { mask = refl; live = live_noted t.life ∙ live_continued (cont_noted_life t.life); dead = dead_noted t.life ∙ dead_continued (cont_noted_life t.life); trace = refl; leader = refl }
+continue_stands false t = record { mask = refl; live = live_noted t.life; dead = dead_noted t.life; trace = refl; leader = refl }
 
 -- a live thread enters a stop and stays live, or leaves one
 
@@ -85,13 +85,13 @@ dead_restarted (life.InStop (stop.Event e)) h = refl
 dead_restarted _ h = refl
 
 pub enter_stands : (s : Stop) (n : ℕ) (t : Thread) → is_live t.life ≡ true → is_live (life.InStop s) ≡ true → StandAlike t (entered_as n s t)
-enter_stands s n t h k = record { mask = refl; live = h ∙ sym k; dead = sym (live_not_dead t.life h); trace = refl }
+enter_stands s n t h k = record { mask = refl; live = h ∙ sym k; dead = sym (live_not_dead t.life h); trace = refl; leader = refl }
 
 pub restart_stands : (t : Thread) → is_live t.life ≡ true → StandAlike t (restarted t)
-restart_stands t h = record { mask = refl; live = live_restarted t.life h; dead = dead_restarted t.life h; trace = refl }
+restart_stands t h = record { mask = refl; live = live_restarted t.life h; dead = dead_restarted t.life h; trace = refl; leader = refl }
 
 pub interrupt_stands : (t : Thread) → StandAlike t (interrupted t)
-interrupt_stands t = record { mask = refl; live = refl; dead = refl; trace = refl }
+interrupt_stands t = record { mask = refl; live = refl; dead = refl; trace = refl; leader = refl }
 
 -- what stays
 
@@ -108,6 +108,9 @@ module _ (t u : Thread) (a : StandAlike t u) where
 
   pub death_alike : is_some t.report ≡ is_some u.report → is_untraced_death t ≡ is_untraced_death u
   death_alike r = λ i. a.dead i && (not (is_some (a.trace i)) && r i)
+
+  pub stray_alike : is_some t.report ≡ is_some u.report → is_stray_death t ≡ is_stray_death u
+  stray_alike r = λ i. death_alike r i && not (a.leader i)
 
 -- and where the two differ in a report alone
 

@@ -5,8 +5,10 @@ pub mod Formerly
 pub mod Helds
 pub mod Keeping
 pub mod Leaders
+pub mod Listings
 pub mod Members
 pub mod Onlys
+pub mod Parted
 pub mod Places
 pub mod Reports
 pub mod RosterLists
@@ -15,5 +17,6 @@ pub mod Rewritten
 pub mod Rosters
 pub mod RowWords
 pub mod ThreadLists
+pub mod TraceeRows
 pub mod Traced
 pub mod Tracings

@@ -9,6 +9,7 @@ use Rattle.tr_model.specs.Moves.{changed, dropped}
 use Rattle.tr_model.specs.Tables.{ids_of, thread_in}
 use Rattle.tr_index.proofs.Places.{first, first_is, by_place}
 use Rattle.tr_threads.specs.Kept.{IsPlace}
+use Rattle.tr_threads.proofs.ThreadLists.{ids_mapped}
 
 -- the place of a record is that of its id
 pub position_mapped : {X : Type 0} (p : ℕ → Bool) (f : X → ℕ) (xs : List X) → position p (map f xs) ≡ position (λ x. p (f x)) xs
@@ -65,7 +66,3 @@ module _ (id : ℕ) where
   is_place ts ids r i e =
       let at : r ≡ position (λ t. t.id == id) ts = e ∙ (ap (λ (ns : List ℕ). position (λ n. n == id) ns) (i ∙ ids_mapped ts) ∙ position_mapped (λ n. n == id) (λ t. t.id) ts) in
       subst (IsPlace id ts) (sym at) (by_place (λ t. t.id == id) ts (IsPlace id ts) (λ h. let t = thread_there ts h in (h, λ f d y k. rw k (written f d ts), closed ts, t.0, t.1)) (nowhere ts))
-    where
-      ids_mapped : (us : List Thread) → ids_of us ≡ map (λ t. t.id) us
-      ids_mapped [] = refl
-      ids_mapped (u ∷ us) = ap (λ (ns : List ℕ). u.id ∷ ns) (ids_mapped us)

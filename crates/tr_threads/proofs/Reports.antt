@@ -1,7 +1,9 @@
 -- The first thread that has a report for its tracer, as it is found by what is kept beside the threads.
-use Rattle.std.proofs.Common.{◌≡◌, ◌==◌, ◌&&◌, ◌≤◌, ◌∙◌, ◌⊎◌, inl, inr, ℕ, List, [], ◌∷◌, Bool, true, false, not, Option, Some, None, cond, if◌then◌else◌, filter, find, is_some, length, map, arith, refl, ap, sym}
+use Rattle.std.proofs.Common.{◌≡◌, ◌==◌, ◌&&◌, ◌≤◌, ◌∙◌, ℕ, List, [], ◌∷◌, Bool, true, false, not, Option, Some, None, cond, if◌then◌else◌, filter, find, is_some, length, map, arith, refl, ap, sym}
 use Rattle.std.specs.List.{list_any}
-use Rattle.std.proofs.lemmas.Bool.{and_parts, cases_eq, ne_eqb}
+use Rattle.std.proofs.lemmas.Bool.{and_parts}
+use Rattle.std.proofs.lemmas.List.{length-map}
+use Rattle.std.proofs.lemmas.List.Elements.{filter_agree}
 use Rattle.tr_tracee.specs.declared.thread.Report.{Report}
 use Rattle.tr_tracee.specs.declared.thread.Thread.{Thread}
 use Rattle.tr_tracee.specs.declared.thread.Trace.{Trace}
@@ -9,10 +11,13 @@ use Rattle.tr_tracee.specs.Threads.{is_tracee_of, traces, tracer_of}
 use Rattle.tr_model.specs.Journals.{occurs}
 use Rattle.tr_model.specs.Tables.{ids_of, thread_in}
 use Rattle.tr_index.specs.Multisets.{is_number}
-use Rattle.tr_threads.specs.Tracing.{first_of, is_reporting, passes, reports, tracer, waiter}
+use Rattle.tr_threads.specs.declared.tracee_list.Listed.{Listed}
+use Rattle.tr_threads.specs.TraceeLists.{IsListing, ids_under, is_under}
+use Rattle.tr_threads.specs.Tracing.{first_of, passes, reports, tracer, waiter}
 use Rattle.tr_threads.specs.Waits.{is_report}
 use Rattle.tr_threads.proofs.ByIds.{found}
 use Rattle.tr_threads.proofs.Counting.{any_counted}
+use Rattle.tr_threads.proofs.ThreadLists.{ids_length}
 
 -- a filter before a search
 
@@ -26,20 +31,6 @@ find_filter r q (t ∷ ts) = go (q t) (find_filter r q ts)
 
 pub find_same : (p q : Thread → Bool) → ((t : Thread) → p t ≡ q t) → (ts : List Thread) → find p ts ≡ find q ts
 find_same p q s ts = λ j. find (λ t. s t j) ts
-
--- by the id
-
-pub none_found : (q : Thread → Bool) (ts : List Thread) → length (filter q ts) ≡ 0 → (p : Thread → Bool) → ((t : Thread) → p t ≡ true → q t ≡ true) → find p ts ≡ None
-none_found q [] h p s = refl
-none_found q (t ∷ ts) h p s = go (q t) (p t) h (s t) (λ k. none_found q ts k p s)
-  where
-    go : (b a : Bool) → length (cond b (t ∷ filter q ts) (filter q ts)) ≡ 0 → (a ≡ true → b ≡ true) → (length (filter q ts) ≡ 0 → find p ts ≡ None) → (if a then Some t else find p ts) ≡ None
-    go true a k w r = absurd (omega (arith, k))
-    go false true k w r = absurd (never (w refl))
-      where
-        never : false ≡ true → ⊥
-        never e = cc
-    go false false k w r = r k
 
 -- by the ids of those that have a report
 
@@ -83,25 +74,15 @@ tells a number o None e = absurd (never (traces a o) (ap (λ b. traces a o && b)
     never true h = cc
     never false h = cc
 
-numbered : (a : ℕ) (o : Option ℕ) → is_number a o ≡ true → is_some o ≡ true
-numbered a None e = e
-numbered a (Some n) e = refl
+-- by the rows under their tracer
 
-pub tracees_counted : (a : ℕ) (ts : List Thread) → not (length (filter (λ t. is_number a (tracer t)) ts) == 0) ≡ list_any (is_tracee_of a) ts
-tracees_counted a ts = sym (any_counted (λ t. is_number a (tracer t)) ts) ∙ (λ j. list_any (λ t. is_tracer a t.trace j) ts)
+pub tracees_listed : (a : ℕ) (ts : List Thread) (ls : List Listed) → IsListing tracer ts ls → ids_under a ls ≡ ids_of (filter (is_tracee_of a) ts)
+tracees_listed a ts ls h = h.listed a ∙ ap ids_of (filter_agree (λ t. is_number a (tracer t)) (is_tracee_of a) (λ t. is_tracer a t.trace) ts)
 
-pub first_listed : (a : ℕ) (number : Option ℕ) (ts : List Thread) → ((n : ℕ) → occurs n (ids_of ts) ≤ 1) → first_of (reports a number) ts (ids_of (filter is_reporting ts)) ≡ find (reports a number) ts
-first_listed a number ts once = listed (reports a number) is_reporting ts (λ t e. numbered a (waiter t) (tells a number t.trace t.report e)) once
+pub any_tracee : (a : ℕ) (ts : List Thread) (ls : List Listed) → IsListing tracer ts ls → list_any (is_under a) ls ≡ list_any (is_tracee_of a) ts
+any_tracee a ts ls h =
+    let many : length (filter (is_under a) ls) ≡ length (filter (is_tracee_of a) ts) = omega (arith, length-map (filter (is_under a) ls) (λ (l : Listed). l.id), ap (λ (ns : List ℕ). length ns) (tracees_listed a ts ls h), ids_length (filter (is_tracee_of a) ts)) in
+    any_counted (is_under a) ls ∙ (ap (λ (n : ℕ). not (n == 0)) many ∙ sym (any_counted (is_tracee_of a) ts))
 
-pub none_waits : (a : ℕ) (number : Option ℕ) (ts : List Thread) → length (filter (λ t. is_number a (waiter t)) ts) ≡ 0 → find (reports a number) ts ≡ None
-none_waits a number ts h = none_found (λ t. is_number a (waiter t)) ts h (reports a number) (λ t e. tells a number t.trace t.report e)
-
-pub is_zero : (n : ℕ) → not (n == 0) ≡ false → n ≡ 0
-is_zero n e = go (cases_eq n 0)
-  where
-    go : (n ≡ 0) ⊎ (n ≡ 0 → ⊥) → n ≡ 0
-    go (inl k) = k
-    go (inr k) = absurd (never (sym (ap not (ne_eqb n 0 k)) ∙ e))
-      where
-        never : true ≡ false → ⊥
-        never h = cc
+pub first_listed : (a : ℕ) (number : Option ℕ) (ts : List Thread) (ls : List Listed) → IsListing waiter ts ls → ((n : ℕ) → occurs n (ids_of ts) ≤ 1) → first_of (reports a number) ts (ids_under a ls) ≡ find (reports a number) ts
+first_listed a number ts ls h once = ap (first_of (reports a number) ts) (h.listed a) ∙ listed (reports a number) (λ t. is_number a (waiter t)) ts (λ t e. tells a number t.trace t.report e) once

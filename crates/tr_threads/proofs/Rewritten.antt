@@ -1,21 +1,21 @@
 -- What is kept for waits, by the list as it is after a thread of it became another one that stands as it did.
-use Rattle.std.proofs.Common.{◌≡◌, ◌+◌, ◌<◌, ◌≤◌, ◌∙◌, ◌&&◌, ℕ, List, Bool, true, false, not, Option, None, Some, filter, if◌then◌else◌, is_some, length, set, get_or, ap, refl, subst, sym}
-use Rattle.std.specs.List.Sorted.{IsPartitionedBy}
+use Rattle.std.proofs.Common.{◌≡◌, ◌<◌, ◌≤◌, ◌∙◌, ◌&&◌, ℕ, List, Bool, true, false, not, Option, None, Some, if◌then◌else◌, is_some, length, set, get_or, ap, refl, subst, sym, vec_capacity}
 use Rattle.std.proofs.Math.Bool.{and-false}
 use Rattle.tr_tracee.specs.declared.thread.Thread.{Thread}
 use Rattle.tr_tracee.specs.declared.thread.Trace.{Trace}
 use Rattle.tr_tracee.specs.Lives.{is_dead}
-use Rattle.tr_tracee.specs.Threads.{tracer_of}
+use Rattle.tr_tracee.specs.Threads.{is_leader, tracer_of}
 use Rattle.tr_model.specs.Journals.{occurs}
 use Rattle.tr_model.specs.Tables.{ids_of}
-use Rattle.tr_index.specs.Counts.{bool_to_nat}
-use Rattle.tr_index.specs.Multisets.{MultisetView, is_number}
+use Rattle.tr_threads.specs.declared.tracing.Tracing.{Tracing}
 use Rattle.tr_threads.specs.Alike.{StandAlike}
-use Rattle.tr_threads.specs.Tracing.{HasPlaces, IsTracing, TracingView, is_before, relisted, tracer, waiter}
-use Rattle.tr_threads.specs.Waits.{is_untraced_death}
-use Rattle.tr_threads.proofs.Alike.{death_alike, traced_by_same, waited_by_same}
+use Rattle.tr_threads.specs.TraceeLists.{MayRelist, relisted}
+use Rattle.tr_threads.specs.Tracing.{CountsDeath, HasPlaces, IsTracing, IsUnkept, RecountsDeath, tracer, waiter}
+use Rattle.tr_threads.specs.Waits.{is_stray_death, is_untraced_death}
+use Rattle.tr_threads.proofs.Alike.{death_alike, stray_alike, traced_by_same, waited_by_same}
 use Rattle.tr_threads.proofs.Formerly.{has_same_id, is_now, was_indexed, was_there, was_within}
-use Rattle.tr_threads.proofs.Tracings.{MayRecount, Recounts, counts_death, death_places, may_wait, parted, place, places_written, there, traced_alike, traced_written}
+use Rattle.tr_threads.proofs.Listings.{relisted_same}
+use Rattle.tr_threads.proofs.Tracings.{counts_death, may_report, may_trace, places_written, traced_alike, traced_still, traced_written}
 
 -- the waiter of a thread that has this tracer, by whether it has a report
 pub waits_if : (t : Thread) (a : ℕ) (b : Bool) (o : Option ℕ) → o ≡ (if b then Some a else None) → b ≡ is_some t.report → tracer t ≡ Some a → o ≡ waiter t
@@ -37,7 +37,10 @@ told_by_tracer t a s = go t.trace s
     go None e = cc
     go (Some r) e = and-false (is_dead t.life)
 
-module _ (us : List Thread) (x y : Thread) (i : ℕ) (ids : List ℕ) (v : TracingView) (kept : IsTracing (set us i x) v) (places : HasPlaces (length us) v) (indexed : ids ≡ ids_of us) (once : (n : ℕ) → occurs n ids ≤ 1) (within : i < length us) (now : y ≡ get_or us i y) (same : (d : Thread) → x.id ≡ (get_or us i d).id) where
+pub not_stray : (t : Thread) (a : ℕ) → tracer t ≡ Some a → is_stray_death t ≡ false
+not_stray t a s = ap (λ (b : Bool). b && not (is_leader t)) (told_by_tracer t a s)
+
+module _ (us : List Thread) (x y : Thread) (i : ℕ) (ids : List ℕ) (v : Tracing) (kept : IsTracing (set us i x) v) (places : HasPlaces (length us) v) (indexed : ids ≡ ids_of us) (once : (n : ℕ) → occurs n ids ≤ 1) (within : i < length us) (now : y ≡ get_or us i y) (same : (d : Thread) → x.id ≡ (get_or us i d).id) where
   abbrev was : List Thread
   was = set us i x
 
@@ -56,35 +59,32 @@ module _ (us : List Thread) (x y : Thread) (i : ℕ) (ids : List ℕ) (v : Traci
   one : y.id ≡ (get_or was i x).id
   one = has_same_id us i x y within now same
 
-  pub lists : IsPartitionedBy (is_before ids i) v.reporting
-  lists = parted was ids v kept room listed once i x inside stood
+  is : (w : Tracing) → IsTracing (set was i y) w → IsTracing us w
+  is w h = subst (λ (zs : List Thread). IsTracing zs w) (is_now us i x y within now same) h
 
-  pub is_listed : (o : Option ℕ) → o ≡ waiter x → length (filter (is_before ids i) v.reporting) + bool_to_nat (is_some o) ≤ length v.reporting
-  is_listed = there was ids v kept room listed once i x inside stood
+  pub traces_now : (o p : Option ℕ) → o ≡ tracer x → p ≡ tracer y → MayRelist ids i o p v.tracees.rows.items (vec_capacity v.tracees.rows)
+  traces_now o p b a = may_trace was ids v kept room listed once i x inside stood y o p b a
 
-  pub may_list : (o p : Option ℕ) → o ≡ waiter x → p ≡ waiter y → length v.reporting + bool_to_nat (is_some p) ≤ v.places + bool_to_nat (is_some o)
-  may_list = place was ids v kept room listed once i x inside stood y
+  pub reports_now : (o p : Option ℕ) → o ≡ waiter x → p ≡ waiter y → MayRelist ids i o p v.reporting.rows.items (vec_capacity v.reporting.rows)
+  reports_now o p b a = may_report was ids v kept room listed once i x inside stood y o p b a
 
-  pub may_count : (o p : Option ℕ) → o ≡ waiter x → p ≡ waiter y → MayRecount v.waiters o p
-  may_count = may_wait was ids v kept room listed once i x inside stood y
+  pub counted : CountsDeath x v
+  counted = counts_death was ids v kept room listed once i x inside stood
 
-  pub may_be_counted : bool_to_nat (is_untraced_death x) ≤ v.untraced_deaths
-  may_be_counted = counts_death was ids v kept room listed once i x inside stood
+  -- what is listed and counted anew
+  pub told : (w : Tracing) (a b c d : Option ℕ) → a ≡ tracer x → b ≡ tracer y → c ≡ waiter x → d ≡ waiter y → w.tracees.rows.items ≡ relisted ids i y.id a b v.tracees.rows.items
+      → w.reporting.rows.items ≡ relisted ids i y.id c d v.reporting.rows.items → RecountsDeath x y v w → IsTracing us w
+  told w a b c d p q r s m n k = is w (traced_written was ids v kept room listed once i x inside stood y w a b c d one p q r s m n k)
 
-  pub few_deaths : v.untraced_deaths ≤ v.places
-  few_deaths = death_places was ids v kept room listed once i x inside stood
+  -- where nothing is kept, before and after
+  pub still_unkept : IsUnkept x → IsUnkept y → IsTracing us v
+  still_unkept before after = is v (traced_still was ids v kept room listed once i x inside stood y one before after)
 
   -- where it has a report as before, nothing is other
   pub reports_alike : StandAlike x y → is_some x.report ≡ is_some y.report → IsTracing us v
-  reports_alike a r =
-      subst (λ (zs : List Thread). IsTracing zs v) (is_now us i x y within now same)
-      (traced_alike was ids v kept room listed once i x inside stood y one (traced_by_same x y a) (waited_by_same x y a r) (death_alike x y a r))
+  reports_alike a r = is v (traced_alike was ids v kept room listed once i x inside stood y one (traced_by_same x y a) (waited_by_same x y a r) (death_alike x y a r) (stray_alike x y a r))
 
-  -- its waiter, its place among those that are listed and its death are told
-  pub reports_told : (w : TracingView) (o p : Option ℕ) → StandAlike x y → o ≡ waiter x → p ≡ waiter y → w.tracers ≡ v.tracers → Recounts v.waiters w.waiters o p
-      → w.reporting ≡ relisted (is_some o) (is_some p) (length (filter (is_before ids i) v.reporting)) y.id v.reporting
-      → w.untraced_deaths + bool_to_nat (is_untraced_death x) ≡ v.untraced_deaths + bool_to_nat (is_untraced_death y) → IsTracing us w
-  reports_told w o p a b c t q r n =
-      let same_tracer : Recounts v.tracers v.tracers (tracer x) (tracer y) = record { counted = λ m. ap (λ (z : Option ℕ). occurs m v.tracers.numbers + bool_to_nat (is_number m z)) (traced_by_same x y a); sized = ap (λ (z : Option ℕ). length v.tracers.numbers + bool_to_nat (is_some z)) (traced_by_same x y a) } in
-      subst (λ (zs : List Thread). IsTracing zs w) (is_now us i x y within now same)
-      (traced_written was ids v kept room listed once i x inside stood y w o p one b c (subst (λ (z : MultisetView). Recounts v.tracers z (tracer x) (tracer y)) (sym t) same_tracer) q r n)
+  -- its report and its death are told
+  pub reports_told : (w : Tracing) (o p : Option ℕ) → StandAlike x y → o ≡ waiter x → p ≡ waiter y → w.tracees.rows.items ≡ v.tracees.rows.items
+      → w.reporting.rows.items ≡ relisted ids i y.id o p v.reporting.rows.items → RecountsDeath x y v w → IsTracing us w
+  reports_told w o p a b c m n k = told w (tracer x) (tracer x) o p refl (traced_by_same x y a) b c (m ∙ relisted_same ids i y.id (tracer x) v.tracees.rows.items) n k

@@ -1,5 +1,5 @@
 -- A list of threads beside its ids.
-use Rattle.std.proofs.Common.{◌≡◌, ◌==◌, ◌+◌, ◌<◌, ◌≤◌, ◌||◌, ℕ, zero, suc, List, [], ◌∷◌, Bool, true, false, if◌then◌else◌, length, get_or, take, arith, refl, eq-eqb, ◌&&◌, ◌∙◌, ◌++◌, not, Some, None, cond, filter, set, remove, ap, sym}
+use Rattle.std.proofs.Common.{◌≡◌, ◌==◌, ◌+◌, ◌<◌, ◌≤◌, ◌||◌, ℕ, zero, suc, List, [], ◌∷◌, Bool, true, false, if◌then◌else◌, length, map, get_or, take, arith, refl, eq-eqb, ◌&&◌, ◌∙◌, ◌++◌, not, Some, None, cond, filter, set, remove, ap, sym}
 use Rattle.std.specs.List.{list_any}
 use Rattle.std.proofs.lemmas.List.{take_more}
 use Rattle.std.proofs.lemmas.Option.{none-some}
@@ -49,6 +49,10 @@ ids_removed [] zero = refl
 ids_removed [] (suc i) = refl
 ids_removed (t ∷ ts) zero = refl
 ids_removed (t ∷ ts) (suc i) = ap (λ (ns : List ℕ). t.id ∷ ns) (ids_removed ts i)
+
+pub ids_mapped : (ts : List Thread) → ids_of ts ≡ map (λ t. t.id) ts
+ids_mapped [] = refl
+ids_mapped (t ∷ ts) = ap (λ (ns : List ℕ). t.id ∷ ns) (ids_mapped ts)
 
 pub ids_length : (ts : List Thread) → length (ids_of ts) ≡ length ts
 ids_length [] = refl

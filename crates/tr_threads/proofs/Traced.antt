@@ -1,93 +1,90 @@
--- What a change of the list of all threads makes of what is kept for the waits of tracers.
-use Rattle.std.proofs.Common.{◌≡◌, ◌==◌, ◌||◌, ◌+◌, ◌<◌, ◌≤◌, ◌∙◌, ◌⊎◌, inl, inr, ℕ, zero, suc, List, [], ◌∷◌, ◌++◌, Bool, true, false, Option, Some, None, cond, if◌then◌else◌, filter, is_some, length, nat_lt, set, get_or, remove, take, arith, refl, ap, sym, eq-eqb}
-use Rattle.std.specs.List.{list_any, position}
-use Rattle.std.specs.List.Sorted.{IsPartitionedBy}
+-- What an edit of a list makes of the ids of those that pass a test, and how many of these stand before a place.
+use Rattle.std.proofs.Common.{◌≡◌, ◌==◌, ◌||◌, ◌+◌, ◌<◌, ◌≤◌, ◌∙◌, ◌⊎◌, inl, inr, ℕ, zero, suc, List, [], ◌∷◌, ◌++◌, Bool, true, false, Option, Some, None, cond, if◌then◌else◌, filter, length, map, nat_lt, set, get_or, remove, take, arith, refl, ap, sym, eq-eqb}
+use Rattle.std.specs.List.{insert, list_any, position}
 use Rattle.std.proofs.lemmas.Bool.{cases_lt, le-ltb, lt-ltb, ne_eqb}
-use Rattle.std.proofs.lemmas.List.{length-set}
 use Rattle.tr_tracee.specs.declared.thread.Thread.{Thread}
 use Rattle.tr_model.specs.Journals.{occurs}
 use Rattle.tr_model.specs.Tables.{ids_of}
 use Rattle.tr_index.specs.Counts.{bool_to_nat}
-use Rattle.tr_threads.specs.Tracing.{IsMultiset, is_before, relisted}
-use Rattle.tr_index.specs.Multisets.{MultisetView, is_number}
-use Rattle.tr_model.proofs.Costs.{filter-le-length}
 use Rattle.tr_index.proofs.Places.{by_place, first}
-use Rattle.tr_threads.proofs.Counting.{counted_added, counted_gone, counted_written}
+use Rattle.tr_threads.specs.TraceeLists.{is_before}
+use Rattle.tr_threads.proofs.Parted.{Parts}
 use Rattle.tr_threads.proofs.Rostering.{occurs_in}
 
--- multisets
+-- the id comes to those listed, as the one after k of them, or the one there goes, or neither
+abbrev pub edited : Bool → Bool → ℕ → ℕ → List ℕ → List ℕ
+edited true false k id ns = remove ns k
+edited false true k id ns = insert ns k id
+edited _ _ k id ns = ns
 
-module _ (key : Thread → Option ℕ) (ts : List Thread) (v w : MultisetView) (h : IsMultiset key ts v) where
-  pub multiset_written : (i : ℕ) (d y : Thread) → i < length ts → ((m : ℕ) → occurs m w.numbers + bool_to_nat (is_number m (key (get_or ts i d))) ≡ occurs m v.numbers + bool_to_nat (is_number m (key y)))
-      → length w.numbers + bool_to_nat (is_some (key (get_or ts i d))) ≡ length v.numbers + bool_to_nat (is_some (key y)) → IsMultiset key (set ts i y) w
-  multiset_written i d y l c s = record {
-    counted = λ n. omega (arith, h.counted n, c n, counted_written (λ t. is_number n (key t)) ts i d y l);
-    sized = omega (arith, h.sized, s, counted_written (λ t. is_some (key t)) ts i d y l);
-  }
+pub edited_alike : (was is : Bool) → was ≡ is → (k id : ℕ) (ns : List ℕ) → edited was is k id ns ≡ ns
+edited_alike true true e k id ns = refl
+edited_alike false false e k id ns = refl
+edited_alike true false e k id ns = cc
+edited_alike false true e k id ns = cc
 
-  pub multiset_gone : (i : ℕ) (d : Thread) → i < length ts → ((m : ℕ) → occurs m w.numbers + bool_to_nat (is_number m (key (get_or ts i d))) ≡ occurs m v.numbers + bool_to_nat false)
-      → length w.numbers + bool_to_nat (is_some (key (get_or ts i d))) ≡ length v.numbers + bool_to_nat false → IsMultiset key (remove ts i) w
-  multiset_gone i d l c s = record {
-    counted = λ n. omega (arith, h.counted n, c n, counted_gone (λ t. is_number n (key t)) ts i d l);
-    sized = omega (arith, h.sized, s, counted_gone (λ t. is_some (key t)) ts i d l);
-  }
+module _ {X : Type 0} (id : X → ℕ) (p : X → Bool) where
+  -- one more stands before
+  pushed : (b was is : Bool) (n : ℕ) (x : X) (us vs ws : List X) → edited was is (length vs) n (map id us) ≡ map id ws → edited was is (length (cond b (x ∷ vs) vs)) n (map id (cond b (x ∷ us) us)) ≡ map id (cond b (x ∷ ws) ws)
+  pushed false was is n x us vs ws r = r
+  pushed true true false n x us vs ws r = ap (λ (ns : List ℕ). id x ∷ ns) r
+  pushed true false true n x us vs ws r = ap (λ (ns : List ℕ). id x ∷ ns) r
+  pushed true true true n x us vs ws r = ap (λ (ns : List ℕ). id x ∷ ns) r
+  pushed true false false n x us vs ws r = ap (λ (ns : List ℕ). id x ∷ ns) r
 
-  pub multiset_added : (t : Thread) → ((m : ℕ) → occurs m w.numbers + bool_to_nat false ≡ occurs m v.numbers + bool_to_nat (is_number m (key t)))
-      → length w.numbers + bool_to_nat false ≡ length v.numbers + bool_to_nat (is_some (key t)) → IsMultiset key (ts ++ t ∷ []) w
-  multiset_added t c s = record {
-    counted = λ n. omega (arith, h.counted n, c n, counted_added (λ u. is_number n (key u)) ts t);
-    sized = omega (arith, h.sized, s, counted_added (λ u. is_some (key u)) ts t);
-  }
+  pub list_written : (xs : List X) (i : ℕ) (d y : X) → i < length xs → id y ≡ id (get_or xs i d) → edited (p (get_or xs i d)) (p y) (length (filter p (take i xs))) (id y) (map id (filter p xs)) ≡ map id (filter p (set xs i y))
+  list_written [] i d y l e = absurd (omega (arith, l))
+  list_written (x ∷ xs) zero d y l e = go (p x) (p y)
+    where
+      go : (a b : Bool) → edited a b 0 (id y) (map id (cond a (x ∷ filter p xs) (filter p xs))) ≡ map id (cond b (y ∷ filter p xs) (filter p xs))
+      go true true = ap (λ (n : ℕ). n ∷ map id (filter p xs)) (sym e)
+      go true false = refl
+      go false true = refl
+      go false false = refl
+  list_written (x ∷ xs) (suc i) d y l e = pushed (p x) (p (get_or xs i d)) (p y) (id y) x (filter p xs) (filter p (take i xs)) (filter p (set xs i y)) (list_written xs i d y (omega (arith, l)) e)
 
-module _ (key : Thread → Option ℕ) (ts : List Thread) (v : MultisetView) (h : IsMultiset key ts v) (i : ℕ) (d : Thread) (l : i < length ts) where
-  -- a thread of the list is counted
-  pub counts_it : (m : ℕ) → bool_to_nat (is_number m (key (get_or ts i d))) ≤ occurs m v.numbers
-  counts_it m = omega (arith, h.counted m, counted_gone (λ t. is_number m (key t)) ts i d l)
+  pub list_gone : (xs : List X) (i : ℕ) (d : X) (n : ℕ) → i < length xs → edited (p (get_or xs i d)) false (length (filter p (take i xs))) n (map id (filter p xs)) ≡ map id (filter p (remove xs i))
+  list_gone [] i d n l = absurd (omega (arith, l))
+  list_gone (x ∷ xs) zero d n l = go (p x)
+    where
+      go : (a : Bool) → edited a false 0 n (map id (cond a (x ∷ filter p xs) (filter p xs))) ≡ map id (filter p xs)
+      go true = refl
+      go false = refl
+  list_gone (x ∷ xs) (suc i) d n l = pushed (p x) (p (get_or xs i d)) false n x (filter p xs) (filter p (take i xs)) (filter p (remove xs i)) (list_gone xs i d n (omega (arith, l)))
 
-  -- there is a place for what it becomes
-  pub place_for : (y : Thread) → length ts ≤ v.places → length v.numbers + bool_to_nat (is_some (key y)) ≤ v.places + bool_to_nat (is_some (key (get_or ts i d)))
-  place_for y room = omega (arith, room, h.sized, counted_written (λ t. is_some (key t)) ts i d y l, filter-le-length (λ t. is_some (key t)) (set ts i y), length-set ts i y)
+  pub list_put : (xs : List X) (i : ℕ) (y : X) → edited false (p y) (length (filter p (take i xs))) (id y) (map id (filter p xs)) ≡ map id (filter p (insert xs i y))
+  list_put [] zero y = alone (p y)
+    where
+      alone : (b : Bool) → edited false b 0 (id y) [] ≡ map id (cond b (y ∷ []) [])
+      alone true = refl
+      alone false = refl
+  list_put [] (suc i) y = alone (p y)
+    where
+      alone : (b : Bool) → edited false b 0 (id y) [] ≡ map id (cond b (y ∷ []) [])
+      alone true = refl
+      alone false = refl
+  list_put (x ∷ xs) zero y = go (p y)
+    where
+      go : (b : Bool) → edited false b 0 (id y) (map id (filter p (x ∷ xs))) ≡ map id (cond b (y ∷ filter p (x ∷ xs)) (filter p (x ∷ xs)))
+      go true = refl
+      go false = refl
+  list_put (x ∷ xs) (suc i) y = pushed (p x) false (p y) (id y) x (filter p xs) (filter p (take i xs)) (filter p (insert xs i y)) (list_put xs i y)
 
-  pub place_left : length ts ≤ v.places → length v.numbers + bool_to_nat false ≤ v.places + bool_to_nat (is_some (key (get_or ts i d)))
-  place_left room = omega (arith, room, h.sized, filter-le-length (λ t. is_some (key t)) ts)
+  pub list_added : (xs : List X) (y : X) → map id (filter p (xs ++ y ∷ [])) ≡ (if p y then map id (filter p xs) ++ id y ∷ [] else map id (filter p xs))
+  list_added [] y = go (p y)
+    where
+      go : (b : Bool) → map id (cond b (y ∷ []) []) ≡ (if b then id y ∷ [] else [])
+      go true = refl
+      go false = refl
+  list_added (x ∷ xs) y = go (p x) (p y) (list_added xs y)
+    where
+      go : (a b : Bool) → map id (filter p (xs ++ y ∷ [])) ≡ (if b then map id (filter p xs) ++ id y ∷ [] else map id (filter p xs))
+          → map id (cond a (x ∷ filter p (xs ++ y ∷ [])) (filter p (xs ++ y ∷ []))) ≡ (if b then map id (cond a (x ∷ filter p xs) (filter p xs)) ++ id y ∷ [] else map id (cond a (x ∷ filter p xs) (filter p xs)))
+      go true true r = ap (λ (ns : List ℕ). id x ∷ ns) r
+      go true false r = ap (λ (ns : List ℕ). id x ∷ ns) r
+      go false b r = r
 
-pub place_after : (key : Thread → Option ℕ) (ts : List Thread) (v : MultisetView) → IsMultiset key ts v → length ts + 1 ≤ v.places → length v.numbers < v.places
-place_after key ts v h room = omega (arith, room, h.sized, filter-le-length (λ t. is_some (key t)) ts)
-
--- the ids of those that pass a test, and how many of them stand before a place
-
--- the first n pass, and no other
-abbrev pub Parts : (ℕ → Bool) → List ℕ → ℕ → Type 0
-Parts f [] n = n ≡ 0
-Parts f (x ∷ xs) zero = (f x ≡ false) × Parts f xs zero
-Parts f (x ∷ xs) (suc n) = (f x ≡ true) × Parts f xs n
-
-pub parts_count : (f : ℕ → Bool) (xs : List ℕ) (n : ℕ) → Parts f xs n → length (filter f xs) ≡ n
-parts_count f [] n h = sym h
-parts_count f (x ∷ xs) zero h = ap (λ b. length (cond b (x ∷ filter f xs) (filter f xs))) h.0 ∙ parts_count f xs zero h.1
-parts_count f (x ∷ xs) (suc n) h = ap (λ b. length (cond b (x ∷ filter f xs) (filter f xs))) h.0 ∙ ap suc (parts_count f xs n h.1)
-
-parts_low : (f : ℕ → Bool) (xs : List ℕ) → Parts f xs 0 → (j d : ℕ) → j < length xs → f (get_or xs j d) ≡ false
-parts_low f [] h j d l = absurd (omega (arith, l))
-parts_low f (x ∷ xs) h zero d l = h.0
-parts_low f (x ∷ xs) h (suc j) d l = parts_low f xs h.1 j d (omega (arith, l))
-
-pub parts_parted : (f : ℕ → Bool) (xs : List ℕ) (n : ℕ) → Parts f xs n → IsPartitionedBy f xs
-parts_parted f [] n h i j d le l p = absurd (omega (arith, l))
-parts_parted f (x ∷ xs) zero h i j d le l p = absurd (never (f (get_or (x ∷ xs) j d)) p (parts_low f (x ∷ xs) h j d l))
-  where
-    never : (b : Bool) → b ≡ true → b ≡ false → ⊥
-    never true p q = cc
-    never false p q = cc
-parts_parted f (x ∷ xs) (suc n) h zero j d le l p = h.0
-parts_parted f (x ∷ xs) (suc n) h (suc i) zero d le l p = absurd (omega (arith, le))
-parts_parted f (x ∷ xs) (suc n) h (suc i) (suc j) d le l p = parts_parted f xs n h.1 i j d (omega (arith, le)) (omega (arith, l)) p
-
--- where a search has found the place
-pub point_count : (f : ℕ → Bool) (xs : List ℕ) (k : ℕ) → k ≤ length xs → ((j d : ℕ) → j < k → f (get_or xs j d) ≡ true) → ((j d : ℕ) → k ≤ j → j < length xs → f (get_or xs j d) ≡ false) → length (filter f xs) ≡ k
-point_count f [] k le low high = omega (arith, le)
-point_count f (x ∷ xs) zero le low high = ap (λ b. length (cond b (x ∷ filter f xs) (filter f xs))) (high 0 0 (omega arith) (omega arith)) ∙ point_count f xs zero (omega arith) (λ j d l. absurd (omega (arith, l))) (λ j d a b. high (suc j) d (omega arith) (omega (arith, b)))
-point_count f (x ∷ xs) (suc k) le low high = ap (λ b. length (cond b (x ∷ filter f xs) (filter f xs))) (low 0 0 (omega arith)) ∙ ap suc (point_count f xs k (omega (arith, le)) (λ j d l. low (suc j) d (omega (arith, l))) (λ j d a b. high (suc j) d (omega (arith, a)) (omega (arith, b))))
+-- how many of those that pass stand before a place
 
 -- an id that isn't listed makes no difference
 aside : (m : ℕ) (f : ℕ → Bool) (xs : List ℕ) (n : ℕ) → occurs m xs ≤ 0 → Parts f xs n → Parts (λ x. (m == x) || f x) xs n
@@ -136,49 +133,6 @@ module _ (p : Thread → Bool) where
           → length (cond b (t ∷ filter p (take i ts)) (filter p (take i ts))) + bool_to_nat (p (get_or ts i d)) ≤ length (ids_of (cond b (t ∷ filter p ts) (filter p ts)))
       go true r = omega (arith, r)
       go false r = omega (arith, r)
-
-  -- one more stands before
-  pushed : (b : Bool) (was is : Bool) (k id : ℕ) (t : Thread) (us vs ws : List Thread) (k' : ℕ) → relisted was is (length vs) id (ids_of us) ≡ ids_of ws
-      → relisted was is (length (cond b (t ∷ vs) vs)) id (ids_of (cond b (t ∷ us) us)) ≡ ids_of (cond b (t ∷ ws) ws)
-  pushed false was is k id t us vs ws k' r = r
-  pushed true true false k id t us vs ws k' r = ap (λ (ns : List ℕ). t.id ∷ ns) r
-  pushed true false true k id t us vs ws k' r = ap (λ (ns : List ℕ). t.id ∷ ns) r
-  pushed true true true k id t us vs ws k' r = ap (λ (ns : List ℕ). t.id ∷ ns) r
-  pushed true false false k id t us vs ws k' r = ap (λ (ns : List ℕ). t.id ∷ ns) r
-
-  pub list_written : (ts : List Thread) (i : ℕ) (d y : Thread) → i < length ts → y.id ≡ (get_or ts i d).id → relisted (p (get_or ts i d)) (p y) (length (filter p (take i ts))) y.id (ids_of (filter p ts)) ≡ ids_of (filter p (set ts i y))
-  list_written [] i d y l e = absurd (omega (arith, l))
-  list_written (t ∷ ts) zero d y l e = go (p t) (p y)
-    where
-      go : (a b : Bool) → relisted a b 0 y.id (ids_of (cond a (t ∷ filter p ts) (filter p ts))) ≡ ids_of (cond b (y ∷ filter p ts) (filter p ts))
-      go true true = ap (λ (n : ℕ). n ∷ ids_of (filter p ts)) (sym e)
-      go true false = refl
-      go false true = refl
-      go false false = refl
-  list_written (t ∷ ts) (suc i) d y l e = pushed (p t) (p (get_or ts i d)) (p y) 0 y.id t (filter p ts) (filter p (take i ts)) (filter p (set ts i y)) 0 (list_written ts i d y (omega (arith, l)) e)
-
-  pub list_gone : (ts : List Thread) (i : ℕ) (d : Thread) (id : ℕ) → i < length ts → relisted (p (get_or ts i d)) false (length (filter p (take i ts))) id (ids_of (filter p ts)) ≡ ids_of (filter p (remove ts i))
-  list_gone [] i d id l = absurd (omega (arith, l))
-  list_gone (t ∷ ts) zero d id l = go (p t)
-    where
-      go : (a : Bool) → relisted a false 0 id (ids_of (cond a (t ∷ filter p ts) (filter p ts))) ≡ ids_of (filter p ts)
-      go true = refl
-      go false = refl
-  list_gone (t ∷ ts) (suc i) d id l = pushed (p t) (p (get_or ts i d)) false 0 id t (filter p ts) (filter p (take i ts)) (filter p (remove ts i)) 0 (list_gone ts i d id (omega (arith, l)))
-
-  pub list_added : (ts : List Thread) (t : Thread) → ids_of (filter p (ts ++ t ∷ [])) ≡ (if p t then ids_of (filter p ts) ++ t.id ∷ [] else ids_of (filter p ts))
-  list_added [] t = go (p t)
-    where
-      go : (b : Bool) → ids_of (cond b (t ∷ []) []) ≡ (if b then t.id ∷ [] else [])
-      go true = refl
-      go false = refl
-  list_added (u ∷ ts) t = go (p u) (p t) (list_added ts t)
-    where
-      go : (a b : Bool) → ids_of (filter p (ts ++ t ∷ [])) ≡ (if b then ids_of (filter p ts) ++ t.id ∷ [] else ids_of (filter p ts))
-          → ids_of (cond a (u ∷ filter p (ts ++ t ∷ [])) (filter p (ts ++ t ∷ []))) ≡ (if b then ids_of (cond a (u ∷ filter p ts) (filter p ts)) ++ t.id ∷ [] else ids_of (cond a (u ∷ filter p ts) (filter p ts)))
-      go true true r = ap (λ (ns : List ℕ). u.id ∷ ns) r
-      go true false r = ap (λ (ns : List ℕ). u.id ∷ ns) r
-      go false b r = r
 
 -- whether the place of an id comes before another
 

@@ -9,8 +9,9 @@ use Rattle.tr_model.specs.declared.fates.Fate.TheVariants.{Flushed}
 use Rattle.tr_model.specs.Moves.{changed, dropped, ended_by_change, in_leaders_row, renamed}
 use Rattle.tr_model.specs.Tables.{ids_of, thread_in}
 use Rattle.tr_model.specs.Journals.{occurs}
+use Rattle.tr_threads.specs.declared.tracing.Tracing.{Tracing}
 use Rattle.tr_threads.specs.Rosters.{RosterView, roster_in, roster_of}
-use Rattle.tr_threads.specs.Tracing.{HasPlaces, IsTracing, TracingView}
+use Rattle.tr_threads.specs.Tracing.{HasPlaces, IsTracing}
 
 -- a change of the first thread with the id is one at this place, where it is found, and its removal too; neither does
 -- anything where no thread has the id
@@ -43,7 +44,7 @@ pub record IsThreads (ts : List Thread) (ids : List ℕ) (rosters : List (ℕ ×
   pub few : (g : ℕ) → length (filter (in_group g) ts) ≤ 64
 
 -- and what is kept for the waits of tracers, with a place for each thread
-pub record IsKept (ts : List Thread) (ids : List ℕ) (rosters : List (ℕ × RosterView)) (tracing : TracingView) : Type 0 where
+pub record IsKept (ts : List Thread) (ids : List ℕ) (rosters : List (ℕ × RosterView)) (tracing : Tracing) : Type 0 where
   pub rostered : IsThreads ts ids rosters
   pub traced : IsTracing ts tracing
   pub places : HasPlaces (length ts) tracing

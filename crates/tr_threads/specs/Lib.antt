@@ -4,5 +4,6 @@ pub mod Held
 pub mod Kept
 pub mod Rosters
 pub mod Rows
+pub mod TraceeLists
 pub mod Tracing
 pub mod Waits

@@ -1,11 +1,12 @@
-ghost use Rattle.std.specs.Prelude.{◌≡◌, ℕ, filter, find, option_copied};
+ghost use Rattle.std.specs.Prelude.{◌≡◌, ℕ, filter, find, map, option_copied};
 ghost use Rattle.std.specs.List.{list_any};
 ghost use Rattle.tr_tracee.specs.Threads.{is_tracee_of};
-ghost use Rattle.tr_model.specs.Tables.{thread_in};
+ghost use Rattle.tr_model.specs.Tables.{ids_of, thread_in};
 ghost use Rattle.tr_threads.specs.Tracing.{first_of, if_passes, reports};
-ghost use Rattle.tr_threads.specs.Waits.{is_report, is_untraced_death};
+ghost use Rattle.tr_threads.specs.Waits.{is_report, is_stray_death, is_untraced_death};
 
 use crate::threads::Threads;
+use crate::tracee_list::Listed;
 use tr_tracee::{Report, Thread};
 
 // What a wait asks of the threads: whom an actor traces, which of these has a report, and whether a death is the starter's
@@ -16,7 +17,14 @@ impl Threads {
     pub fn has_tracee(&self, actor: u32) -> bool
         ensures { result ≡ list_any (is_tracee_of actor) self.now }
     {
-        self.tracing.has_tracees(actor)
+        self.tracing.tracees.contains(actor)
+    }
+
+    /// Lends the actor's tracees, by their ids, in table order.
+    pub fn tracees(&self, actor: u32) -> &[Listed]
+        ensures { map (λ l. l.id) result.now ≡ ids_of (filter (is_tracee_of actor) self.now) }
+    {
+        self.tracing.tracees.under(actor)
     }
 
     /// Lends the thread with the id, where the actor traces it.
@@ -35,17 +43,21 @@ impl Threads {
     pub fn first_reporting(&self, actor: u32, number: Option<u64>) -> Option<&Thread>
         ensures { option_copied result ≡ find (reports actor number) self.now }
     {
-        if !self.tracing.has_reports(actor) {
-            return None;
-        }
-        first_among(self, self.tracing.reporting(), actor, number)
+        first_among(self, self.tracing.reporting.under(actor), actor, number)
     }
 
     /// Says whether some dead thread that nobody traces has a report.
     pub fn has_untraced_deaths(&self) -> bool
         ensures { result ≡ list_any is_untraced_death self.now }
     {
-        self.tracing.has_untraced_deaths()
+        self.tracing.untraced_deaths != 0
+    }
+
+    /// Says whether some dead thread that nobody traces, and that doesn't lead its group, has a report.
+    pub fn has_stray_deaths(&self) -> bool
+        ensures { result ≡ list_any is_stray_death self.now }
+    {
+        self.tracing.stray_deaths != 0
     }
 }
 
@@ -72,17 +84,17 @@ pub fn with_report(thread: Option<&Thread>, number: Option<u64>) -> Option<&Thre
     }
 }
 
-/// The first of the threads with these ids that has such a report for the actor.
+/// The first of these threads that has such a report for the actor.
 fn first_among<'a>(
     threads: &'a Threads,
-    ids: &[u32],
+    rows: &[Listed],
     actor: u32,
     number: Option<u64>,
 ) -> Option<&'a Thread>
-    ensures { option_copied result ≡ first_of (reports actor number) threads.now ids.now }
+    ensures { option_copied result ≡ first_of (reports actor number) threads.now (map (λ l. l.id) rows.now) }
 {
-    for id in ids {
-        if let Some(thread) = with_report(threads.tracee(actor, *id), number) {
+    for row in rows {
+        if let Some(thread) = with_report(threads.tracee(actor, row.id), number) {
             return Some(thread);
         }
     }

@@ -1,44 +1,27 @@
-ghost use Rattle.std.specs.Prelude.{List, ◌≡◌, ◌==◌, ℕ, ◌+◌, ◌<◌, ◌≤◌, ◌++◌, ◌∷◌, [], None, OnOk, Some, false, filter, get_or, if◌then◌else◌, length, not, remove, slice_set, vec_capacity};
-ghost use Rattle.std.specs.List.Sorted.{IsPartitionedBy};
+ghost use Rattle.std.specs.Prelude.{◌≡◌, List, ℕ, ◌<◌, ◌≤◌, ◌++◌, ◌∷◌, [], None, OnOk, Some, false, get_or, if◌then◌else◌, length, remove, slice_set};
 ghost use Rattle.tr_tracee.specs.declared.thread.Thread.{Thread};
 ghost use Rattle.tr_model.specs.Journals.{occurs};
 ghost use Rattle.tr_model.specs.Tables.{ids_of};
-ghost use Rattle.tr_index.specs.Counts.{bool_to_nat};
 ghost use Rattle.tr_threads.specs.Alike.{StandAlike};
-ghost use Rattle.tr_threads.specs.Tracing.{HasPlace, HasPlaces, IsTracing, IsUnkept, is_before, relisted, tracer, waiter};
-ghost use Rattle.tr_threads.specs.Waits.{is_untraced_death};
+ghost use Rattle.tr_threads.specs.Tracing.{CountsDeath, HasPlace, HasPlaces, IsTracing, IsUnkept, RecountsDeath, tracer, waiter};
+ghost use Rattle.tr_threads.specs.Waits.{is_stray_death, is_untraced_death};
 
+use crate::tracee_list::TraceeList;
 use std::alloc::{AllocError, Global};
-use std::marker::Model;
-use tr_index::{Index, Multiset, recounted};
+use tr_index::{Index, recounted};
 use tr_tracee::Thread;
 
 /// What is kept of the threads for waits: of their tracers, and of the starter.
 #[derive(Drop)]
 pub(crate) struct Tracing {
-    /// The tracers of all tracees.
-    tracers: Multiset,
-    /// The tracers of those that have a report.
-    waiters: Multiset,
-    /// The ids of those, in table order.
-    reporting: Vec<u32>,
+    /// All tracees.
+    pub(crate) tracees: TraceeList,
+    /// Those that have a report.
+    pub(crate) reporting: TraceeList,
     /// For the starter: how many dead threads that nobody traces have a report.
-    untraced_deaths: usize,
-}
-
-impl Model for Tracing {
-    ghost use Rattle.std.specs.Prelude.{vec_capacity};
-    ghost use Rattle.tr_threads.specs.Tracing.{TracingView};
-
-    ghost Value = { TracingView };
-
-    ghost view = { λ t. record {
-      tracers = t.tracers;
-      waiters = t.waiters;
-      reporting = t.reporting.items;
-      places = vec_capacity t.reporting;
-      untraced_deaths = t.untraced_deaths;
-    } };
+    pub(crate) untraced_deaths: usize,
+    /// How many of those don't lead their group.
+    pub(crate) stray_deaths: usize,
 }
 
 fn waiter_of(thread: &Thread) -> Option<u32>
@@ -58,10 +41,18 @@ fn waiter_if(reports: bool, tracer: u32) -> Option<u32>
     if reports { Some(tracer) } else { None }
 }
 
-fn is_untraced_death(thread: &Thread) -> bool
+/// Says whether the thread's death is the starter's to be told: it is dead, nobody traces it, and it has a report.
+#[inline(always)]
+pub fn is_untraced_death(thread: &Thread) -> bool
     ensures { result ≡ is_untraced_death thread.now }
 {
     thread.life.is_dead() && !thread.is_traced() && thread.report.is_some()
+}
+
+fn is_stray_death(thread: &Thread) -> bool
+    ensures { result ≡ is_stray_death thread.now }
+{
+    is_untraced_death(thread) && !thread.is_leader()
 }
 
 /// Whether something may be kept of a thread: somebody traces it, or it is dead.
@@ -71,68 +62,15 @@ fn may_be_kept(thread: &Thread) -> bool
     thread.is_traced() || thread.life.is_dead()
 }
 
-/// Whether the record of an id stands before a place.
-fn is_before(index: &Index, place: usize, id: u32) -> bool
-    ensures { result ≡ is_before index.now place id }
-{
-    match index.place(id) {
-        Some(at) => at < place,
-        None => false,
-    }
-}
-
-/// How many of these ids stand before a place.
-fn rank(ids: &[u32], index: &Index, place: usize) -> usize
-    requires { IsPartitionedBy (is_before index.now place) ids.now }
-    ensures { result ≡ length (filter (is_before index.now place) ids.now) }
-{
-    ids.partition_point(|id| is_before(index, place, *id))
-}
-
-/// The id at a place comes to those that are listed, or goes, or neither.
-#[inline(always)]
-fn relist(ids: &mut Vec<u32>, index: &Index, place: usize, id: u32, was: bool, is: bool)
-    requires parted { IsPartitionedBy (is_before index.now place) ids.old.items }
-    requires there { length (filter (is_before index.now place) ids.old.items) + bool_to_nat was
-        ≤ length ids.old.items }
-    requires room { length ids.old.items + bool_to_nat is ≤ vec_capacity ids.old + bool_to_nat was }
-    ensures items { ids.new.items
-        ≡ relisted was is
-        (length (filter (is_before index.now place) ids.old.items)) id ids.old.items }
-    ensures capacity { vec_capacity ids.new ≡ vec_capacity ids.old }
-{
-    if was && !is {
-        // Mostly it is the only one.
-        let rank = if ids.len() == 1 {
-            0
-        } else {
-            rank(ids, index, place)
-        };
-        if rank + 1 == ids.len() {
-            let _last = ids.pop();
-        } else {
-            let _id = ids.remove(rank);
-        }
-    }
-    if !was && is {
-        let rank = rank(ids, index, place);
-        if rank == ids.len() {
-            ids.push_reserved(id);
-        } else {
-            let _inserted = ids.insert(rank, id);
-        }
-    }
-}
-
 impl Tracing {
     pub(crate) fn new(alloc: Global) -> Tracing
         ensures { IsTracing [] result }
     {
         Tracing {
-            tracers: Multiset::new(alloc),
-            waiters: Multiset::new(alloc),
-            reporting: Vec::new(alloc),
+            tracees: TraceeList::new(alloc),
+            reporting: TraceeList::new(alloc),
             untraced_deaths: 0,
+            stray_deaths: 0,
         }
     }
 
@@ -142,38 +80,8 @@ impl Tracing {
         ensures places { (n : ℕ) → HasPlaces n self.old → HasPlaces n self.new }
         ensures ok { OnOk result (HasPlaces count self.new) }
     {
-        self.tracers.reserve(count)?;
-        self.waiters.reserve(count)?;
-        self.reporting
-            .reserve(count.saturating_sub(self.reporting.len()))
-    }
-
-    /// Whether the actor traces anybody.
-    pub(crate) fn has_tracees(&self, actor: u32) -> bool
-        ensures { result ≡ not (occurs actor self.now.tracers.numbers == 0) }
-    {
-        self.tracers.contains(actor)
-    }
-
-    /// Whether a tracee of the actor has a report.
-    pub(crate) fn has_reports(&self, actor: u32) -> bool
-        ensures { result ≡ not (occurs actor self.now.waiters.numbers == 0) }
-    {
-        self.waiters.contains(actor)
-    }
-
-    /// Whether some dead thread that nobody traces has a report.
-    pub(crate) fn has_untraced_deaths(&self) -> bool
-        ensures { result ≡ not (self.now.untraced_deaths == 0) }
-    {
-        self.untraced_deaths != 0
-    }
-
-    /// The ids of all tracees that have a report, in table order.
-    pub(crate) fn reporting(&self) -> &[u32]
-        ensures { result.now ≡ self.now.reporting }
-    {
-        self.reporting.as_slice()
+        self.tracees.reserve(count)?;
+        self.reporting.reserve(count)
     }
 
     /// A thread comes last.
@@ -184,13 +92,10 @@ impl Tracing {
             → IsTracing (ts ++ thread.now ∷ []) self.new }
         ensures places { (n : ℕ) → HasPlaces n self.old → HasPlaces n self.new }
     {
-        let waiter = waiter_of(thread);
-        self.tracers.recount(None, thread.tracer());
-        self.waiters.recount(None, waiter);
+        self.tracees.push(thread.tracer(), thread.id);
+        self.reporting.push(waiter_of(thread), thread.id);
         self.untraced_deaths = recounted(self.untraced_deaths, false, is_untraced_death(thread));
-        if waiter.is_some() {
-            self.reporting.push_reserved(thread.id);
-        }
+        self.stray_deaths = recounted(self.stray_deaths, false, is_stray_death(thread));
     }
 
     /// The thread at a place has become what stands there; it was this one, which has its id.
@@ -215,22 +120,12 @@ impl Tracing {
         if !may_be_kept(former) && !may_be_kept(thread) {
             return;
         }
-        let (was, is) = (waiter_of(former), waiter_of(thread));
-        relist(
-            &mut self.reporting,
-            index,
-            place,
-            thread.id,
-            was.is_some(),
-            is.is_some(),
-        );
-        self.tracers.recount(former.tracer(), thread.tracer());
-        self.waiters.recount(was, is);
-        self.untraced_deaths = recounted(
-            self.untraced_deaths,
-            is_untraced_death(former),
-            is_untraced_death(thread),
-        );
+        let (tracer, waiter) = (former.tracer(), waiter_of(former));
+        self.tracees
+            .relist(index, place, thread.id, tracer, thread.tracer());
+        self.reporting
+            .relist(index, place, thread.id, waiter, waiter_of(thread));
+        self.recount_deaths(former, thread);
     }
 
     /// The same of a thread that stands as before: of what is kept for waits, its report alone may be other.
@@ -258,23 +153,31 @@ impl Tracing {
             return;
         }
         let Some(tracer) = thread.tracer() else {
-            self.untraced_deaths = recounted(
-                self.untraced_deaths,
-                is_untraced_death(former),
-                is_untraced_death(thread),
-            );
+            self.recount_deaths(former, thread);
             return;
         };
         let (before, after) = (waiter_if(had, tracer), waiter_if(has, tracer));
-        relist(
-            &mut self.reporting,
-            index,
-            place,
-            thread.id,
-            before.is_some(),
-            after.is_some(),
+        self.reporting
+            .relist(index, place, thread.id, before, after);
+    }
+
+    /// The death of a thread counts as that of the record that it has become.
+    fn recount_deaths(&mut self, former: &Thread, thread: &Thread)
+        requires { CountsDeath former.now self.old }
+        ensures tracees { self.new.tracees ≡ self.old.tracees }
+        ensures reporting { self.new.reporting ≡ self.old.reporting }
+        ensures deaths { RecountsDeath former.now thread.now self.old self.new }
+    {
+        self.untraced_deaths = recounted(
+            self.untraced_deaths,
+            is_untraced_death(former),
+            is_untraced_death(thread),
         );
-        self.waiters.recount(before, after);
+        self.stray_deaths = recounted(
+            self.stray_deaths,
+            is_stray_death(former),
+            is_stray_death(thread),
+        );
     }
 
     /// The thread at a place is to go.
@@ -288,17 +191,10 @@ impl Tracing {
         ensures places { (n : ℕ) → HasPlaces n self.old → HasPlaces n self.new }
     {
         let former = &threads[place];
-        let was = waiter_of(former);
-        relist(
-            &mut self.reporting,
-            index,
-            place,
-            former.id,
-            was.is_some(),
-            false,
-        );
-        self.tracers.recount(former.tracer(), None);
-        self.waiters.recount(was, None);
+        let (tracer, waiter) = (former.tracer(), waiter_of(former));
+        self.tracees.relist(index, place, former.id, tracer, None);
+        self.reporting.relist(index, place, former.id, waiter, None);
         self.untraced_deaths = recounted(self.untraced_deaths, is_untraced_death(former), false);
+        self.stray_deaths = recounted(self.stray_deaths, is_stray_death(former), false);
     }
 }

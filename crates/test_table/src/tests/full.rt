@@ -55,8 +55,20 @@ fn come_in_order(rt: &impl Abort, table: &mut Table, tracer: u32) -> Result<(), 
     Ok(())
 }
 
+/// That a tracer's tracees are lent in table order.
+fn are_lent_in_order(rt: &impl Abort, table: &Table, tracer: u32) {
+    let ids = table
+        .threads()
+        .iter()
+        .filter(|t| t.is_tracee_of(tracer))
+        .map(|t| t.id);
+    assert!(rt; table.tracees(tracer).iter().map(|row| row.id).eq(ids));
+}
+
 fn reports_come(rt: &impl Abort, table: &mut Table) -> Result<(), Fail> {
     raise_all(table)?;
+    are_lent_in_order(rt, table, 8);
+    are_lent_in_order(rt, table, 9);
     come_in_order(rt, table, 9)?;
     come_in_order(rt, table, 8)?;
     assert!(rt; !table.has_asked(10, Which::Any));

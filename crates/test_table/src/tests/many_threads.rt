@@ -2,7 +2,7 @@ use super::*;
 use tr_tracee::{Options, Trace};
 
 /// A group of one thread.
-fn alone(alloc: Global, tgid: u32) -> Result<GroupStart, AllocError> {
+pub(super) fn alone(alloc: Global, tgid: u32) -> Result<GroupStart, AllocError> {
     Ok(GroupStart {
         tgid,
         name: Items::from_vec(Vec::from_slice(alloc, b"many")?),

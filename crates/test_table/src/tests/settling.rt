@@ -63,7 +63,7 @@ fn any_group_is_told_until_all_are_looked_at(rt: HostRuntime) -> Result<(), Fail
 }
 
 /// A note of a group, and the table settled.
-fn settled_note(table: &mut Table, tgid: u32) -> Result<(), Fail> {
+pub(super) fn settled_note(table: &mut Table, tgid: u32) -> Result<(), Fail> {
     if table.raised() > 100 {
         Err("more reports than the tests raise")?;
     }

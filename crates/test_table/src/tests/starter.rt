@@ -64,7 +64,7 @@ fn notes_are_known_of(rt: HostRuntime) -> Result<(), Fail> {
     notes_go(&rt, &mut table)
 }
 
-fn raise_report(table: &mut Table, id: u32) -> Result<(), Fail> {
+pub(super) fn raise_report(table: &mut Table, id: u32) -> Result<(), Fail> {
     if table.raised() > 100 {
         Err("more reports than the tests raise")?;
     }

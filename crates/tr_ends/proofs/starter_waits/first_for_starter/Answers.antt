@@ -1,11 +1,9 @@
-use Rattle.std.proofs.Common.{◌||◌, ◌&&◌, ◌∙◌, Bool, List, flat_map, is_some, ap, sym}
+use Rattle.std.proofs.Common.{◌&&◌, ◌∙◌, List, flat_map, is_some, ap, sym}
 use Rattle.std.proofs.lemmas.Bool.{or_parts}
-use Rattle.std.specs.List.{list_any}
 use Rattle.tr_wait.specs.Words.{asks_for}
 use Rattle.tr_model.specs.declared.rows.Group.{Group}
 use Rattle.tr_model.specs.StarterWaits.{ready_of_group}
 use Rattle.tr_model.specs.Tables.{thread_of}
-use Rattle.tr_threads.specs.Waits.{is_untraced_death}
 use Rattle.tr_ends.specs.Private.{first_number, led_among}
 use Rattle.tr_ends.proofs.Firsts.{filter_twice}
 use Rattle.tr_ends.proofs.Untold.{no_reports}

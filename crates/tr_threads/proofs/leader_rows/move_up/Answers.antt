@@ -190,6 +190,14 @@ rewrite-requires-clause-indexed c =
 pub rewrite-requires-clause-once : goal.rewrite-requires-clause-once
 rewrite-requires-clause-once c n = rw c.remove.ensures (once_removed c.args.index.now c.args.place c.requires.kept.once n)
 
+pub returns-then-former-thread-clause-places : goal.returns-then-former-thread-clause-places
+returns-then-former-thread-clause-places c =
+    let xs = c.args.list.now.items in
+    let us = c.remove-former.new.self.items in
+    let left : HasPlaces (length (remove xs c.args.place)) c.forget.new.self = places_gone xs c.args.place c.forget.new.self c.requires.place (c.forget.ensures.places (length xs) c.requires.places) in
+    let still : HasPlaces (length us) c.forget.new.self = subst (λ (zs : List Thread). HasPlaces (length zs) c.forget.new.self) (sym c.remove-former.ensures.items) left in
+    places_written us c.in-Some.leader (renamed c.args.thread.now.group c.args.thread.now) c.rewrite.new.self (c.rewrite.ensures.places (length us) still)
+
 pub returns-else-former-thread-clause-places : goal.returns-else-former-thread-clause-places
 returns-else-former-thread-clause-places c =
     let xs = c.args.list.now.items in

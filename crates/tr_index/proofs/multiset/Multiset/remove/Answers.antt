@@ -30,7 +30,7 @@ pub invariant_of-self-in-Ok : goal.invariant_of-self-in-Ok
 invariant_of-self-in-Ok c =
     let xs = c.self.inside.numbers.items in
     let at : IsFound xs c.args.n (Ok c.in-Ok.place) = result xs c.deref-2.result.now c.args.n (Ok c.in-Ok.place) c.deref-2.ensures.value c.self.invariant c.in-Ok.ensures.position in
-    rw c.remove-removed.ensures.items (rises_gone xs c.in-Ok.place at.0 c.self.invariant)
+    rw c.remove-removed.ensures.items (rises_gone (λ (x : ℕ). x) xs c.in-Ok.place at.0 c.self.invariant)
 
 pub returns-in-Ok-clause-counted : goal.returns-in-Ok-clause-counted
 returns-in-Ok-clause-counted c m =

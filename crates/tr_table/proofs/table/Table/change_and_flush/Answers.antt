@@ -3,7 +3,7 @@ use Rattle.tr_tracee.specs.declared.thread.Thread.{Thread}
 use Rattle.tr_threads.specs.Changes.{thread_changed_by}
 use Rattle.tr_threads.proofs.Keeping.{same_changed}
 use Rattle.tr_table.proofs.Rosters.{roster_of_members}
-use Rattle.tr_table.proofs.Unsettling.{by_members, members_changed, moved}
+use Rattle.tr_table.proofs.Unsettling.{members_changed, moved_members}
 use Rattle.tr_table.proofs.table.Table.change_and_flush.Goals as goal
 
 pub invariant_of-self : goal.invariant_of-self
@@ -16,5 +16,5 @@ invariant_of-self c =
       roster = roster_of_members _ _ _ c.self.invariant.roster;
       few = c.self.invariant.few;
       ordered = c.self.invariant.ordered;
-      settled = moved _ g c.self.inside.unsettled ts _ xs xs (λ n ne. by_members _ ts _ xs n (members_changed g n (thread_changed_by c.args.change.now) kept ne ts)) c.self.invariant.settled;
+      settled = moved_members _ g c.self.inside.unsettled ts _ xs (λ n ne. members_changed g n (thread_changed_by c.args.change.now) kept ne ts) c.self.invariant.settled;
     })

@@ -2,7 +2,7 @@ use Rattle.std.proofs.lemmas.List.{length-map}
 use Rattle.tr_model.specs.Moves.{only_group}
 use Rattle.tr_table.specs.Changes.{group_changed_by}
 use Rattle.tr_table.proofs.GroupLists.{same_tgid}
-use Rattle.tr_table.proofs.Unsettling.{by_group, elsewhere, moved}
+use Rattle.tr_table.proofs.Unsettling.{moved_changed}
 use Rattle.tr_table.proofs.table.Table.change_group.Goals as goal
 
 pub invariant_of-self : goal.invariant_of-self
@@ -15,5 +15,5 @@ invariant_of-self c =
       roster = c.self.invariant.roster;
       few = rw (length-map xs (only_group g f)) c.self.invariant.few;
       ordered = c.self.invariant.ordered;
-      settled = moved _ g c.self.inside.unsettled ts ts xs _ (λ n ne. by_group _ ts xs _ n (elsewhere g n f (same_tgid c.args.change.now) ne xs)) c.self.invariant.settled;
+      settled = moved_changed _ g c.self.inside.unsettled f ts xs c.self.invariant.settled (same_tgid c.args.change.now);
     })

@@ -1,5 +1,5 @@
 use Rattle.tr_model.proofs.Costs.{length-group_changed}
-use Rattle.tr_table.proofs.Unsettling.{by_group, first_elsewhere, moved}
+use Rattle.tr_table.proofs.Unsettling.{moved_first_changed}
 use Rattle.tr_table.proofs.table.Table.note.Goals as goal
 
 pub invariant_of-self : goal.invariant_of-self
@@ -11,5 +11,5 @@ invariant_of-self c =
       roster = c.self.invariant.roster;
       few = rw (length-group_changed _ _ _) c.self.invariant.few;
       ordered = c.self.invariant.ordered;
-      settled = moved _ g c.self.inside.unsettled ts ts xs _ (λ n ne. by_group _ ts xs _ n (first_elsewhere g n _ (λ x e. e) ne xs)) c.self.invariant.settled;
+      settled = moved_first_changed _ g c.self.inside.unsettled _ ts xs c.self.invariant.settled (λ x e. e);
     })

@@ -1,6 +1,6 @@
 use Rattle.std.proofs.Common.{refl}
 use Rattle.tr_model.proofs.Costs.{length-group_changed}
-use Rattle.tr_table.proofs.Unsettling.{by_group, first_elsewhere, moved}
+use Rattle.tr_table.proofs.Unsettling.{moved_first_changed}
 use Rattle.tr_table.proofs.table.Table.put_group.Goals as goal
 
 pub invariant_of-self : goal.invariant_of-self
@@ -12,5 +12,5 @@ invariant_of-self c =
       roster = c.self.invariant.roster;
       few = rw (length-group_changed _ _ _) c.self.invariant.few;
       ordered = c.self.invariant.ordered;
-      settled = moved _ g c.self.inside.unsettled ts ts xs _ (λ n ne. by_group _ ts xs _ n (first_elsewhere g n _ (λ x e. refl) ne xs)) c.self.invariant.settled;
+      settled = moved_first_changed _ g c.self.inside.unsettled _ ts xs c.self.invariant.settled (λ x e. refl);
     })

@@ -5,7 +5,7 @@ use Rattle.tr_threads.specs.Changes.{thread_changed_by}
 use Rattle.tr_threads.proofs.Keeping.{same_changed}
 use Rattle.tr_threads.proofs.Members.{unmoved}
 use Rattle.tr_table.proofs.Rosters.{roster_set}
-use Rattle.tr_table.proofs.Unsettling.{by_members, moved}
+use Rattle.tr_table.proofs.Unsettling.{moved_members}
 use Rattle.tr_table.proofs.table.Table.raise_at.Goals as goal
 
 pub invariant_of-self : goal.invariant_of-self
@@ -22,7 +22,7 @@ invariant_of-self c =
       roster = roster_set i x y ts same c.self.invariant.roster;
       few = c.self.invariant.few;
       ordered = c.self.invariant.ordered;
-      settled = moved _ x.group c.self.inside.unsettled ts _ xs xs (λ n ne. by_members _ ts _ xs n (
+      settled = moved_members _ x.group c.self.inside.unsettled ts _ xs (λ n ne. (
           let out : (t.group == n) ≡ false = ne_eqb t.group n (λ k. ne (sym (ap (λ (z : Thread). z.group) mine) ∙ k)) in
           unmoved n ts i x y out (ap (λ (m : ℕ). m == n) same.group ∙ out)
           )) c.self.invariant.settled;

@@ -2,7 +2,7 @@ use Rattle.std.proofs.Common.{◌≡◌, ap, subst, sym}
 use Rattle.tr_model.specs.Moves.{dropped}
 use Rattle.tr_table.specs.View.{View}
 use Rattle.tr_table.proofs.Rosters.{roster_dropped}
-use Rattle.tr_table.proofs.Unsettling.{by_members, members_dropped, moved, none_dropped}
+use Rattle.tr_table.proofs.Unsettling.{members_dropped, moved_members, none_dropped}
 use Rattle.tr_table.proofs.table.Table.remove.Goals as goal
 
 pub invariant_of-self : goal.invariant_of-self
@@ -15,7 +15,7 @@ invariant_of-self c =
       roster = roster_dropped id ts c.self.invariant.roster;
       few = c.self.invariant.few;
       ordered = c.self.invariant.ordered;
-      settled = moved _ t.group c.self.inside.unsettled ts _ xs xs (λ n ne. by_members _ ts _ xs n (members_dropped id n t ne ts (sym c.in-Some.ensures))) c.self.invariant.settled;
+      settled = moved_members _ t.group c.self.inside.unsettled ts _ xs (λ n ne. members_dropped id n t ne ts (sym c.in-Some.ensures)) c.self.invariant.settled;
     })
 
 pub returns-in_default-clause-table : goal.returns-in_default-clause-table

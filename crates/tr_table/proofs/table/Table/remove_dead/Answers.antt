@@ -2,7 +2,7 @@ use Rattle.std.proofs.Common.{◌≡◌, ap, subst, sym}
 use Rattle.tr_table.specs.View.{View}
 use Rattle.tr_table.proofs.Rosters.{roster_filter}
 use Rattle.tr_threads.proofs.ThreadLists.{left, none_goes}
-use Rattle.tr_table.proofs.Unsettling.{by_members, members_living, moved}
+use Rattle.tr_table.proofs.Unsettling.{members_living, moved_members}
 use Rattle.tr_table.proofs.table.Table.remove_dead.Goals as goal
 
 pub invariant_of-self : goal.invariant_of-self
@@ -15,7 +15,7 @@ invariant_of-self c =
       roster = roster_filter _ ts c.self.invariant.roster;
       few = c.self.invariant.few;
       ordered = c.self.invariant.ordered;
-      settled = moved _ t.group c.self.inside.unsettled ts _ xs xs (λ n ne. by_members _ ts _ xs n (members_living id n t ne ts (c.self.invariant.roster.distinct id) (sym c.in-Some.ensures))) c.self.invariant.settled;
+      settled = moved_members _ t.group c.self.inside.unsettled ts _ xs (λ n ne. members_living id n t ne ts (c.self.invariant.roster.distinct id) (sym c.in-Some.ensures)) c.self.invariant.settled;
     })
 
 pub returns-in_default : goal.returns-in_default

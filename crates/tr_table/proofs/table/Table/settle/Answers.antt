@@ -1,20 +1,19 @@
-use Rattle.std.proofs.Common.{◌∙◌, ◌==◌, ◌&&◌, ◌||◌, Bool, ap, not, sym}
-use Rattle.tr_model.specs.Journals.{occurs}
-use Rattle.tr_table.specs.Settled.{has_mark, shows_note}
+use Rattle.std.proofs.Common.{◌∙◌, ◌&&◌, ◌||◌, Bool, ap, not, sym}
+use Rattle.tr_table.specs.Settled.{has_mark, is_listed, tells_of}
 use Rattle.tr_table.proofs.Settling.{none_in}
-use Rattle.tr_table.proofs.Unsettling.{noteless}
+use Rattle.tr_table.proofs.Telling.{untold}
 use Rattle.tr_table.proofs.table.Table.settle.Goals as goal
 
 pub invariant_of-self : goal.invariant_of-self
 invariant_of-self c =
     let ts = c.self.inside.threads in
     let xs = c.self.inside.groups in
-    let listed = c.self.inside.noted.numbers in
+    let listed = is_listed xs c.self.inside.telling.numbers in
     let stops = none_in xs (sym c.stopping.ensures ∙ c.if-stopping-eq0.true) in
-    let notes = noteless ts xs (sym c.has_notes.ensures ∙ c.if-not-has_notes.true) in
+    let told = untold ts xs (sym c.has_notes.ensures ∙ c.if-not-has_notes.true) (sym c.has_untraced_deaths.ensures ∙ c.if-not-has_untraced_deaths.true) in
     record {
       roster = c.self.invariant.roster;
       few = c.self.invariant.few;
       ordered = c.self.invariant.ordered;
-      settled = λ g. ap (λ (b : Bool). b && not (has_mark ts g) || shows_note ts xs g && occurs g listed == 0) (stops g) ∙ ap (λ (b : Bool). b && occurs g listed == 0) (notes g);
+      settled = λ g. ap (λ (b : Bool). b && not (has_mark ts g) || tells_of ts xs g && not (listed g)) (stops g) ∙ ap (λ (b : Bool). b && not (listed g)) (told g);
     }

@@ -1,13 +1,54 @@
-use Rattle.std.proofs.Common.{◌≡◌, ◌∙◌, ap, false, sym}
-use Rattle.std.specs.List.{list_any}
-use Rattle.tr_table.specs.Settled.{is_open_row}
-use Rattle.tr_table.proofs.Unsettling.{nowhere_left}
+use Rattle.std.proofs.Common.{◌≡◌, ◌∙◌, ◌&&◌, ap, false, not, subst, sym}
+use Rattle.tr_table.specs.Settled.{NoneBut, can_complete, is_listed, tells_of}
+use Rattle.tr_table.specs.View.{View}
+use Rattle.tr_table.specs.declared.unsettled.Unsettled.{Unsettled}
+use Rattle.tr_table.specs.declared.unsettled.Unsettled.TheVariants.{In}
+use Rattle.tr_table.proofs.Telling.{relisted, settled_in}
 use Rattle.tr_table.proofs.table.Table.settle_touched.Goals as goal
 
-pub invariant_of-self-then-not-some_open : goal.invariant_of-self-then-not-some_open
-invariant_of-self-then-not-some_open c =
+pub invariant_of-self : goal.invariant_of-self
+invariant_of-self c =
+    let g = c.in-In.tgid in
     let ts = c.self.inside.threads in
     let xs = c.self.inside.groups in
-    let listed = c.list_notes.new.listed.numbers in
-    let none : list_any (is_open_row ts listed) xs ≡ false = ap (list_any (is_open_row ts listed)) (sym c.as_slice-in-Anywhere.ensures) ∙ (sym c.some_open.ensures ∙ c.if-not-some_open.true) in
-    record { roster = c.self.invariant.roster; few = c.self.invariant.few; ordered = c.self.invariant.ordered; settled = nowhere_left ts xs listed none }
+    let before = is_listed xs c.self.inside.telling.numbers in
+    let after = is_listed xs c.relist_group.new.places.numbers in
+    let others : NoneBut (In g) ts xs before = subst (λ (u : Unsettled). NoneBut u ts xs before) c.in-In.is c.self.invariant.settled in
+    let stop : can_complete ts xs g ≡ false = ap (λ (v : View). can_complete v.table.threads v.table.groups g) c.self.view_is ∙ (sym c.can_complete-completes.ensures ∙ c.if-not-completes.true) in
+    let told : tells_of ts xs g ≡ c.tells_of-tells.result = ap (λ (v : View). tells_of v.table.threads v.table.groups g) c.self.view_is ∙ sym c.tells_of-tells.ensures in
+    record {
+      roster = c.self.invariant.roster;
+      few = c.self.invariant.few;
+      ordered = c.self.invariant.ordered;
+      settled = settled_in g ts xs before after c.relist_group.ensures.others others stop (ap (λ b. b && not (after g)) told ∙ c.relist_group.ensures.own c.if-relist_group.true);
+    }
+
+pub invariant_of-self-else-not-completes : goal.invariant_of-self-else-not-completes
+invariant_of-self-else-not-completes c =
+    let g = c.in-In.tgid in
+    let ts = c.self.inside.threads in
+    let xs = c.self.inside.groups in
+    let before = is_listed xs c.self.inside.telling.numbers in
+    let after = is_listed xs c.relist_group.new.places.numbers in
+    let others : NoneBut (In g) ts xs before = subst (λ (u : Unsettled). NoneBut u ts xs before) c.in-In.is c.self.invariant.settled in
+    record {
+      roster = c.self.invariant.roster;
+      few = c.self.invariant.few;
+      ordered = c.self.invariant.ordered;
+      settled = subst (λ (u : Unsettled). NoneBut u ts xs after) (sym c.in-In.is) (relisted g ts xs before after c.relist_group.ensures.others others);
+    }
+
+pub invariant_of-self-else-relist_group : goal.invariant_of-self-else-relist_group
+invariant_of-self-else-relist_group c =
+    let g = c.in-In.tgid in
+    let ts = c.self.inside.threads in
+    let xs = c.self.inside.groups in
+    let before = is_listed xs c.self.inside.telling.numbers in
+    let after = is_listed xs c.relist_group.new.places.numbers in
+    let others : NoneBut (In g) ts xs before = subst (λ (u : Unsettled). NoneBut u ts xs before) c.in-In.is c.self.invariant.settled in
+    record {
+      roster = c.self.invariant.roster;
+      few = c.self.invariant.few;
+      ordered = c.self.invariant.ordered;
+      settled = subst (λ (u : Unsettled). NoneBut u ts xs after) (sym c.in-In.is) (relisted g ts xs before after c.relist_group.ensures.others others);
+    }

@@ -7,12 +7,12 @@ use Rattle.tr_model.specs.Tables.{Table, group_of_thread, thread_in}
 use Rattle.tr_model.proofs.Kept.{itself}
 use Rattle.tr_model.proofs.Sorted.{up_to_retargeted}
 use Rattle.tr_table.specs.Order.{IsRoster}
-use Rattle.tr_table.specs.Settled.{NoneBut, touched}
+use Rattle.tr_table.specs.Settled.{NoneBut, is_listed, touched}
 use Rattle.tr_queues.specs.Slots.{standing}
 use Rattle.tr_table.specs.View.{View}
 use Rattle.tr_table.proofs.Moving.{gone, not_placed, placed, there}
 use Rattle.tr_table.proofs.Rosters.{roster_placed}
-use Rattle.tr_table.proofs.Unsettling.{by_members, members_placed, moved_two}
+use Rattle.tr_table.proofs.Unsettling.{members_placed, moved_two_members}
 use Rattle.tr_table.proofs.table.Table.take_place.Goals.{then-not-is_execing-via-then-not-is_execing, then-not-is_execing-via-else-not-is_execing+then-is_leader}
 use Rattle.tr_table.proofs.table.Table.take_place.Goals as goal
 
@@ -42,10 +42,10 @@ invariant_of-self c =
     let xs = o.groups in
     let former = group_of_thread (thread_in o.threads x.group) in
     let apart : x.id ≡ x.group → ⊥ = λ e. true≢false (sym (eq-eqb x.id x.group e) ∙ (sym c.is_leader.ensures ∙ c.if-is_leader.false)) in
-    let moved : NoneBut (touched former (touched x.group o.unsettled)) (map (in_leaders_row x) (dropped x.id o.threads)) xs o.noted.numbers =
-    moved_two _ x.group former o.unsettled o.threads _ xs (λ n ne other. by_members _ o.threads _ xs n (members_placed x n o.threads c.self.invariant.roster mine apart ne other)) c.self.invariant.settled in
-    let settled : NoneBut (touched former (touched x.group o.unsettled)) (map (in_leaders_row x) (remove o.threads c.in_ok-place.place)) xs o.noted.numbers =
-    subst (λ (ts : List Thread). NoneBut (touched former (touched x.group o.unsettled)) (map (in_leaders_row x) ts) xs o.noted.numbers) (gone c.args.id c.in_ok-place.place T here x (c.at.ensures x)) moved in
+    let moved : NoneBut (touched former (touched x.group o.unsettled)) (map (in_leaders_row x) (dropped x.id o.threads)) xs (is_listed xs o.telling.numbers) =
+    moved_two_members _ x.group former o.unsettled o.threads _ xs (λ n ne other. members_placed x n o.threads c.self.invariant.roster mine apart ne other) c.self.invariant.settled in
+    let settled : NoneBut (touched former (touched x.group o.unsettled)) (map (in_leaders_row x) (remove o.threads c.in_ok-place.place)) xs (is_listed xs o.telling.numbers) =
+    subst (λ (ts : List Thread). NoneBut (touched former (touched x.group o.unsettled)) (map (in_leaders_row x) ts) xs (is_listed xs o.telling.numbers)) (gone c.args.id c.in_ok-place.place T here x (c.at.ensures x)) moved in
     rw c.take_place.ensures (record { roster = roster; few = c.self.invariant.few; ordered = record { kept = c.retarget.ensures.kept; numbered = rw c.retarget.ensures.waiting (up_to_retargeted _ _ _ _ c.self.invariant.ordered.numbered) }; settled = rw (c.touch-2.ensures, c.touch.ensures, c.owner_of.ensures) settled })
 
 pub returns : goal.returns

@@ -6,7 +6,7 @@ use Rattle.tr_threads.specs.Changes.{thread_changed_by}
 use Rattle.tr_threads.specs.declared.thread_changes.Turned.TheVariants as turned
 use Rattle.tr_index.specs.Counts.{bool_to_nat}
 use Rattle.tr_threads.specs.Rosters.{HasRow, rewritten, roster_in, with_marks}
-use Rattle.tr_threads.proofs.Alike.{death_alike, traced_by_same, waited_by_same}
+use Rattle.tr_threads.proofs.Alike.{death_alike, stray_alike, traced_by_same, waited_by_same}
 use Rattle.tr_threads.proofs.Keeping.{same_changed}
 use Rattle.tr_threads.proofs.RosterLists.{marks_in}
 use Rattle.tr_threads.proofs.Rostering.{has_row, is_counted, is_once, is_small, is_there, kept_written}
@@ -71,6 +71,6 @@ invariant_of-self c =
     λ g. marks g ∙ (marks_in x y alike (id ∙ ap (λ (t : Thread). t.id) (sym at)) x.group g i.rosters row ∙ ap (λ (t : Thread). if t.group == g then rewritten t y (roster_in i.rosters g) else roster_in i.rosters g) at) in
     record {
       rostered = kept_written ts i.index i.rosters c.self.invariant.rostered c.rewrite_marks.new.self p x y within id group told;
-      traced = traced_alike ts i.index i.tracing c.self.invariant.traced c.self.invariant.places c.self.invariant.rostered.indexed c.self.invariant.rostered.once p x within at y id (traced_by_same x y alike) (waited_by_same x y alike reports) (death_alike x y alike reports);
+      traced = traced_alike ts i.index i.tracing c.self.invariant.traced c.self.invariant.places c.self.invariant.rostered.indexed c.self.invariant.rostered.once p x within at y id (traced_by_same x y alike) (waited_by_same x y alike reports) (death_alike x y alike reports) (stray_alike x y alike reports);
       places = places_written ts p y i.tracing c.self.invariant.places;
     }

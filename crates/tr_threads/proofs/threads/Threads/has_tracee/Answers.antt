@@ -1,11 +1,14 @@
-use Rattle.std.proofs.Common.{◌∙◌, ◌==◌, ℕ, List, not, ap}
+use Rattle.std.proofs.Common.{◌∙◌, List, ap}
 use Rattle.std.specs.List.{list_any}
 use Rattle.tr_tracee.specs.declared.thread.Thread.{Thread}
 use Rattle.tr_tracee.specs.Threads.{is_tracee_of}
-use Rattle.tr_threads.proofs.Reports.{tracees_counted}
+use Rattle.tr_threads.proofs.Reports.{any_tracee}
 use Rattle.tr_threads.proofs.threads.Threads.has_tracee.Goals as goal
 
 pub returns : goal.returns
 returns c =
-    let a = c.args.actor in
-    c.has_tracees.ensures ∙ (ap (λ (n : ℕ). not (n == 0)) (c.self.invariant.traced.tracers.counted a) ∙ (tracees_counted a c.self.inside.list.items ∙ ap (λ (ts : List Thread). list_any (is_tracee_of a) ts) c.self.view_is))
+    let own = c.self.inside in
+    c.contains.ensures ∙ (any_tracee c.args.actor own.list.items own.tracing.tracees.rows.items c.self.invariant.traced.tracees ∙ ap (λ (ts : List Thread). list_any (is_tracee_of c.args.actor) ts) c.self.view_is)
+
+pub contains-requires : goal.contains-requires
+contains-requires c = c.self.invariant.traced.tracees.rises

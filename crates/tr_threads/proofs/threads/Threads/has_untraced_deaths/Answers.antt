@@ -7,5 +7,5 @@ use Rattle.tr_threads.proofs.threads.Threads.has_untraced_deaths.Goals as goal
 
 pub returns : goal.returns
 returns c =
-    c.has_untraced_deaths.ensures
-    ∙ (ap (λ (n : ℕ). not (n == 0)) c.self.invariant.traced.untraced_deaths ∙ (sym (any_counted is_untraced_death c.self.inside.list.items) ∙ ap (λ (ts : List Thread). list_any is_untraced_death ts) c.self.view_is))
+    ap (λ (n : ℕ). not (n == 0)) c.self.invariant.traced.untraced_deaths
+    ∙ (sym (any_counted is_untraced_death c.self.inside.list.items) ∙ ap (λ (ts : List Thread). list_any is_untraced_death ts) c.self.view_is)

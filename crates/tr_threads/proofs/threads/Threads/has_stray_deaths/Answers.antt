@@ -1,0 +1,11 @@
+use Rattle.std.proofs.Common.{◌∙◌, ◌==◌, ℕ, List, not, ap, sym}
+use Rattle.std.specs.List.{list_any}
+use Rattle.tr_tracee.specs.declared.thread.Thread.{Thread}
+use Rattle.tr_threads.specs.Waits.{is_stray_death}
+use Rattle.tr_threads.proofs.Counting.{any_counted}
+use Rattle.tr_threads.proofs.threads.Threads.has_stray_deaths.Goals as goal
+
+pub returns : goal.returns
+returns c =
+    ap (λ (n : ℕ). not (n == 0)) c.self.invariant.traced.stray_deaths
+    ∙ (sym (any_counted is_stray_death c.self.inside.list.items) ∙ ap (λ (ts : List Thread). list_any is_stray_death ts) c.self.view_is)

@@ -1,0 +1,13 @@
+use Rattle.std.proofs.Common.{leb, rules}
+use Rattle.std.proofs.lemmas.List.Sorted.{IsPartitionPoint-from_clause, IsPartitionedBy-leb}
+use Rattle.tr_threads.specs.declared.tracee_list.Listed.{Listed}
+use Rattle.tr_threads.proofs.Parted.{found_count}
+use Rattle.tr_threads.proofs.tracee_list.count_up_to.Goals as goal
+
+pub returns-clause-count : goal.returns-clause-count
+returns-clause-count c =
+    let ls = c.args.rows.now in
+    let n = c.partition_point.result in
+    let parted = IsPartitionedBy-leb (λ (l : Listed). l.tracer) ls c.args.actor c.requires in
+    let point = IsPartitionPoint-from_clause (λ (l : Listed). leb l.tracer c.args.actor) ls n c.partition_point.ensures.partitioned parted (λ a r q k. search rules) in
+    found_count (λ l. leb l.tracer c.args.actor) ls n c.partition_point.ensures.bound point
