@@ -1,7 +1,7 @@
 #!/usr/bin/env python3
 """Tells what a call of each kind costs in tables of several sizes.
 
-usage: step_costs.py PROGRAM [WORD]
+usage: step_costs.py [--instructions] PROGRAM [WORD]
 
 Each call is made 60,000 times by `serial`, in a group that comes last in its table; calls that can't be made twice in a row are made
 in turn with others, 10,000 in all. The figures are nanoseconds for a call, its line included, and where calls are made in turn the
@@ -9,6 +9,9 @@ reading of their steps: the processor time of the run less that of the same run 
 how many groups there are, how many threads each has, how many tracees the tracer has besides, and how many instances wait for the
 group, or for the first group where that is another; a dash is where the call can't be made there. The last figure of a row is the
 greatest by the least. With WORD, only rows that have it in their name. By hand, on an idle machine.
+
+With --instructions the figures are instructions for a call, as valgrind's callgrind counts them: the same on a busy machine. Each call
+is made 2,000 times then, and calls in turn are 2,000 in all.
 """
 
 import json
@@ -16,9 +19,11 @@ import re
 import resource
 import subprocess
 import sys
+from concurrent.futures import ThreadPoolExecutor
 
 TIMES, CALLS = 60_000, 8_900
 RUNS = 5
+COUNTED = 2_000
 SENDER, TRACER, OTHER = 901, 900, 902
 # Groups, threads of each, whether all other groups are traced, and how many instances wait for the first group.
 SIZES = [
@@ -123,8 +128,14 @@ def run(program, scenario):
     return ran.stdout, after.ru_utime - before.ru_utime + after.ru_stime - before.ru_stime
 
 
-def best(program, scenario):
-    return min(run(program, scenario)[1] for _ in range(RUNS))
+def nanoseconds(program, scenario):
+    return min(run(program, scenario)[1] for _ in range(RUNS)) * 1e9
+
+
+def instructions(program, scenario):
+    counted = ["valgrind", "--tool=callgrind", "--callgrind-out-file=/dev/null", program, "serial"]
+    ran = subprocess.run(counted, input=json.dumps(scenario).encode(), capture_output=True, check=True)
+    return int(re.search(rb"Collected : (\d+)", ran.stderr)[1])
 
 
 def kinds(program, size):
@@ -138,14 +149,14 @@ def kinds(program, size):
     return {**rows, **(alone if members == 1 else {}), **(cloning if members == 1 and found else {})}
 
 
-def cost(program, size, before, calls):
-    """Nanoseconds for a call of the kind."""
+def cost(measure, times, all_calls, program, size, before, calls):
+    """What a call of the kind costs, made so many times, or so many calls in all."""
     if len(calls) == 1:
-        once, often, made = calls, [calls[0] | {"times": TIMES}], TIMES - 1
+        once, often, made = calls, [calls[0] | {"times": times}], times - 1
     else:
-        rounds = CALLS // len(calls)
+        rounds = all_calls // len(calls)
         once, often, made = calls, calls * rounds, (rounds - 1) * len(calls)
-    return (best(program, whole(size, before + often)) - best(program, whole(size, before + once))) / made * 1e9
+    return (measure(program, whole(size, before + often)) - measure(program, whole(size, before + once))) / made
 
 
 def head(size):
@@ -154,19 +165,24 @@ def head(size):
     return f"{groups} of {members}{tracees}" + (f", {waiting} wait" if waiting else "")
 
 
-def main(program, word):
+def main(program, word, is_counted):
     print("| call | " + " | ".join(map(head, SIZES)) + " | ratio |")
     print("|---|" + "---:|" * (len(SIZES) + 1))
+    how = (instructions, COUNTED, COUNTED) if is_counted else (nanoseconds, TIMES, CALLS)
     all_kinds = [kinds(program, size) for size in SIZES]
+    # Counts don't mind what runs beside them.
+    pool = ThreadPoolExecutor(None if is_counted else 1)
     for name in all_kinds[0]:
         if word in name:
-            told = [cost(program, size, *made[name]) if name in made else None for size, made in zip(SIZES, all_kinds)]
-            costs = [max(ns, 1) for ns in told if ns is not None]
-            row = " | ".join("-" if ns is None else f"{ns:.0f}" for ns in told)
+            there = [(size, made[name]) if name in made else None for size, made in zip(SIZES, all_kinds)]
+            told = list(pool.map(lambda it: it and cost(*how, program, it[0], *it[1]), there))
+            costs = [max(figure, 1) for figure in told if figure is not None]
+            row = " | ".join("-" if figure is None else f"{figure:.0f}" for figure in told)
             print(f"| {name} | {row} | {max(costs) / min(costs):.1f} |", flush=True)
 
 
 if __name__ == "__main__":
-    if len(sys.argv) not in (2, 3):
+    words = [word for word in sys.argv[1:] if word != "--instructions"]
+    if len(words) not in (1, 2):
         sys.exit(__doc__)
-    main(sys.argv[1], sys.argv[2] if len(sys.argv) == 3 else "")
+    main(words[0], words[1] if len(words) == 2 else "", len(words) < len(sys.argv) - 1)
