@@ -1,5 +1,5 @@
 ghost use Rattle.std.specs.Prelude.{◌≡◌, ℕ, filter, find, map, option_copied};
-ghost use Rattle.std.specs.List.{list_any};
+ghost use Rattle.std.specs.List.{All, list_any};
 ghost use Rattle.tr_wait.specs.Words.{asks_for};
 ghost use Rattle.tr_tracee.specs.Threads.{is_tracee_of};
 ghost use Rattle.tr_model.specs.Journals.{DistinctIds};
@@ -33,6 +33,7 @@ impl Table {
     pub fn tracees(&self, actor: u32) -> &[Listed]
         ensures ids { map (λ l. l.id) result.now
             ≡ ids_of (filter (is_tracee_of actor) self.now.table.threads) }
+        ensures tracer { All (λ l. l.tracer ≡ actor) result.now }
         ensures distinct { DistinctIds self.now.table }
     {
         self.threads.tracees(actor)

@@ -1,5 +1,5 @@
 ghost use Rattle.std.specs.Prelude.{◌≡◌, ℕ, filter, find, map, option_copied};
-ghost use Rattle.std.specs.List.{list_any};
+ghost use Rattle.std.specs.List.{All, list_any};
 ghost use Rattle.tr_tracee.specs.Threads.{is_tracee_of};
 ghost use Rattle.tr_model.specs.Tables.{ids_of, thread_in};
 ghost use Rattle.tr_threads.specs.Tracing.{first_of, if_passes, reports};
@@ -22,7 +22,8 @@ impl Threads {
 
     /// Lends the actor's tracees, by their ids, in table order.
     pub fn tracees(&self, actor: u32) -> &[Listed]
-        ensures { map (λ l. l.id) result.now ≡ ids_of (filter (is_tracee_of actor) self.now) }
+        ensures ids { map (λ l. l.id) result.now ≡ ids_of (filter (is_tracee_of actor) self.now) }
+        ensures tracer { All (λ l. l.tracer ≡ actor) result.now }
     {
         self.tracing.tracees.under(actor)
     }
