@@ -1,5 +1,5 @@
-ghost use Rattle.std.specs.Prelude.{◌≡◌, ℕ, ◌+◌, ◌<◌, ◌≤◌, ◌^◌, ◌++◌, ◌∷◌, [], IfSome, List, Some, false, filter, if◌then◌else◌, is_some, length, option_map, true};
-ghost use Rattle.indexmap.specs.IndexMap.{get, index_map_len, spare};
+ghost use Rattle.std.specs.Prelude.{◌≡◌, ℕ, ◌+◌, ◌<◌, ◌≤◌, ◌^◌, ◌++◌, ◌∷◌, [], IfSome, List, None, Some, false, filter, if◌then◌else◌, is_some, length, option_map, slice_get, true};
+ghost use Rattle.indexmap.specs.IndexMap.{get, index_map_len, spare, values};
 ghost use Rattle.tr_model.specs.Journals.{IsSorted};
 ghost use Rattle.tr_model.specs.Tables.{same_target};
 ghost use Rattle.tr_model.specs.declared.rows.Target.{Target};
@@ -46,7 +46,7 @@ const EMPTY: Line = Line { first: 0, count: 0 };
 
 /// Where a key stands, and its value. The key that came last is looked at first.
 #[inline(always)]
-pub(crate) fn find<K: Eq + Hash, V: Copy>(
+pub(crate) fn find<K: Copy + Eq + Hash, V: Copy>(
     map: &IndexMap<K, V, WordHashing>,
     key: &K,
 ) -> Option<(usize, V)>
@@ -56,20 +56,37 @@ pub(crate) fn find<K: Eq + Hash, V: Copy>(
     let last = map.len().saturating_sub(1);
     match map.get_index(last) {
         Some((found, value)) if *key == *found => Some((last, *value)),
-        _ => find_other(map, key),
+        _ => find_other(map, *key),
     }
 }
 
-#[inline(never)]
-fn find_other<K: Eq + Hash, V: Copy>(
+/// The same, wherever the key stands. The value is read here, so that none comes through memory.
+#[inline(always)]
+fn find_other<K: Copy + Eq + Hash, V: Copy>(
     map: &IndexMap<K, V, WordHashing>,
-    key: &K,
+    key: K,
 ) -> Option<(usize, V)>
-    ensures value { option_map (λ p. p.1) result ≡ get K.eq map.now key.now }
-    ensures place { IfSome result (λ p. StandsAt K.eq map.now p.0 key.now) }
+    ensures value { option_map (λ p. p.1) result ≡ get K.eq map.now key }
+    ensures place { IfSome result (λ p. StandsAt K.eq map.now p.0 key) }
 {
-    let (place, _, value) = map.get_full(key)?;
+    let place = place_of(map, key)?;
+    let (_, value) = map.get_index(place)?;
     Some((place, *value))
+}
+
+/// Where a key stands.
+#[cold]
+#[inline(never)]
+fn place_of<K: Copy + Eq + Hash, V: Copy>(
+    map: &IndexMap<K, V, WordHashing>,
+    key: K,
+) -> Option<usize>
+    ensures place { IfSome result (λ place. StandsAt K.eq map.now place key) }
+    ensures value { IfSome result (λ place. slice_get (values map.now) place ≡ get K.eq map.now key) }
+    ensures none { result ≡ None → get K.eq map.now key ≡ None }
+{
+    let (place, _, _) = map.get_full(&key)?;
+    Some(place)
 }
 
 /// Writes the value of the key at a place.

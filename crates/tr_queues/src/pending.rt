@@ -251,10 +251,10 @@ impl Pending {
             ≡ set self.old.slots.items place (emptied (get_or self.old.slots.items place s)) }
         ensures room { self.new.room ≡ self.old.room }
     {
-        let slot = &self.slots[place];
-        let stays = leave_line(&mut self.lines, &slot.waiting, &self.slots[place + 1..]);
-        leave_queue(&mut self.queues, &slot.waiting, stays);
-        self.own -= own_share(slot.waiting.target);
+        let waiting = self.slots[place].waiting;
+        let stays = leave_line(&mut self.lines, &waiting, &self.slots[place + 1..]);
+        leave_queue(&mut self.queues, &waiting, stays);
+        self.own -= own_share(waiting.target);
         self.slots[place].gone = true;
         self.count -= 1;
     }

@@ -16,10 +16,10 @@ pub leave_line-stays-requires : goal.leave_line-stays-requires
 leave_line-stays-requires c =
     let p = c.args.self.now in
     let ss : List Slot = p.slots.items in
-    let s : Slot = c.index-slot.result.now in
+    let s : Slot = c.index.result.now in
     let w : Waiting = s.waiting in
     let i = c.args.place in
-    let here : get_or ss i s ≡ s = sym c.index-slot.ensures in
+    let here : get_or ss i s ≡ s = sym c.index.ensures in
     let split : standing ss ≡ standing (take i ss) ++ w ∷ standing (drop (i + 1) ss) = waits_at s ss i (search rules) (c.requires.there s) ∙ ap (λ (t : Slot). standing (take i ss) ++ t.waiting ∷ standing (drop (i + 1) ss)) here in
     let sorted : IsSorted (standing (take i ss) ++ w ∷ standing (drop (i + 1) ss)) = subst IsSorted split (standing_sorted ss c.requires.kept.sorted) in
     let old : AreLines p.lines p.queues (standing (take i ss) ++ w ∷ standing (drop (i + 1) ss)) = subst (AreLines p.lines p.queues) split c.requires.kept.lines in
@@ -29,10 +29,10 @@ pub leave_queue-requires : goal.leave_queue-requires
 leave_queue-requires c =
     let p = c.args.self.now in
     let ss : List Slot = p.slots.items in
-    let s : Slot = c.index-slot.result.now in
+    let s : Slot = c.index.result.now in
     let w : Waiting = s.waiting in
     let i = c.args.place in
-    let here : get_or ss i s ≡ s = sym c.index-slot.ensures in
+    let here : get_or ss i s ≡ s = sym c.index.ensures in
     let split : standing ss ≡ standing (take i ss) ++ w ∷ standing (drop (i + 1) ss) = waits_at s ss i (search rules) (c.requires.there s) ∙ ap (λ (t : Slot). standing (take i ss) ++ t.waiting ∷ standing (drop (i + 1) ss)) here in
     let sorted : IsSorted (standing (take i ss) ++ w ∷ standing (drop (i + 1) ss)) = subst IsSorted split (standing_sorted ss c.requires.kept.sorted) in
     let old : AreLines p.lines p.queues (standing (take i ss) ++ w ∷ standing (drop (i + 1) ss)) = subst (AreLines p.lines p.queues) split c.requires.kept.lines in
@@ -42,10 +42,10 @@ pub overflow_sub-self : goal.overflow_sub-self
 overflow_sub-self c =
     let p = c.args.self.now in
     let ss : List Slot = p.slots.items in
-    let s : Slot = c.index-slot.result.now in
+    let s : Slot = c.index.result.now in
     let w : Waiting = s.waiting in
     let i = c.args.place in
-    let here : get_or ss i s ≡ s = sym c.index-slot.ensures in
+    let here : get_or ss i s ≡ s = sym c.index.ensures in
     let split : standing ss ≡ standing (take i ss) ++ w ∷ standing (drop (i + 1) ss) = waits_at s ss i (search rules) (c.requires.there s) ∙ ap (λ (t : Slot). standing (take i ss) ++ t.waiting ∷ standing (drop (i + 1) ss)) here in
     omega (arith, ap count_own split, own_between (standing (take i ss)) (standing (drop (i + 1) ss)) w, c.requires.kept.counted_own)
 
@@ -53,7 +53,7 @@ pub overflow_sub-self-2 : goal.overflow_sub-self-2
 overflow_sub-self-2 c =
     let p = c.args.self.now in
     let ss : List Slot = p.slots.items in
-    let s : Slot = c.index-slot.result.now in
+    let s : Slot = c.index.result.now in
     let i = c.args.place in
     let n = ap length (waits_at s ss i (search rules) (c.requires.there s)) ∙ length-append (standing (take i ss)) ((get_or ss i s).waiting ∷ standing (drop (i + 1) ss)) in
     let counted = c.requires.kept.counted in
@@ -63,10 +63,10 @@ pub returns-clause-kept : goal.returns-clause-kept
 returns-clause-kept c =
     let p = c.args.self.now in
     let ss : List Slot = p.slots.items in
-    let s : Slot = c.index-slot.result.now in
+    let s : Slot = c.index.result.now in
     let w : Waiting = s.waiting in
     let i = c.args.place in
-    let here : get_or ss i s ≡ s = sym c.index-slot.ensures in
+    let here : get_or ss i s ≡ s = sym c.index.ensures in
     let within : i < length ss = search rules in
     let split : standing ss ≡ standing (take i ss) ++ w ∷ standing (drop (i + 1) ss) = waits_at s ss i within (c.requires.there s) ∙ ap (λ (t : Slot). standing (take i ss) ++ t.waiting ∷ standing (drop (i + 1) ss)) here in
     let sorted : IsSorted (standing (take i ss) ++ w ∷ standing (drop (i + 1) ss)) = subst IsSorted split (standing_sorted ss c.requires.kept.sorted) in
