@@ -3,7 +3,6 @@
 ghost use Rattle.std.specs.Prelude.{◌≡◌, ◌≤◌, IfOk, None, OnErr, option_copied};
 ghost use Rattle.tr_model.specs.Compare.{Permits};
 ghost use Rattle.tr_model.specs.declared.events.Event.TheVariants.{Wait};
-ghost use Rattle.tr_model.specs.Moves.{on_thread};
 ghost use Rattle.tr_model.specs.Preferred.{check};
 ghost use Rattle.tr_model.specs.Steps.{waited, waited_note, waited_thread};
 ghost use Rattle.tr_model.specs.Choices.{gives_report};
@@ -129,15 +128,6 @@ fn consume(step: &mut Step, thread: &Thread)
     }
 }
 
-fn consume_some(step: &mut Step, thread: &Option<Thread>)
-    requires { 1 ≤ step.old.room }
-    ensures { Moves (on_thread thread.now consume) 1 step.old step.new }
-{
-    if let Some(thread) = thread {
-        consume(step, thread);
-    }
-}
-
 /// A wait of a tracer that is due, for the report of this number: waitpid(2) with `__WALL` and `WNOHANG`. The report is
 /// gone then. A death that is told takes the thread out of the table, but a leader stays for the starter, who is told
 /// next. Where memory is refused, or the numbers are used up, nothing has changed.
@@ -149,10 +139,10 @@ pub fn wait(step: &mut Step, actor: u32, which: Which, r: u64) -> Result<Reply, 
         (record { actor = actor; event = Wait which; choice = gives_report r }) step.new) }
     ensures err { OnErr result (step.new.work.table ≡ step.old.work.table) }
 {
-    let thread = ready_thread(step.table(), actor, which, r).copied();
-    let reply = waited_thread(&thread, &None);
+    let thread = *ready_thread(step.table(), actor, which, r).unwrap();
+    let reply = waited(thread.id, &thread.report);
     step.begin(1)?;
-    consume_some(step, &thread);
+    consume(step, &thread);
     step.complete_group_stops();
     Ok(reply)
 }

@@ -162,6 +162,7 @@ impl Tracing {
     }
 
     /// The death of a thread counts as that of the record that it has become.
+    #[inline(always)]
     fn recount_deaths(&mut self, former: &Thread, thread: &Thread)
         requires { CountsDeath former.now self.old }
         ensures tracees { self.new.tracees ≡ self.old.tracees }
