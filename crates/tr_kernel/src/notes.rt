@@ -247,21 +247,6 @@ fn took_fact(fact: FactBefore, queue: Target, transfers: &[IdTransfer], reply: &
     }
 }
 
-fn fact_after(
-    fact: FactBefore,
-    reply: &Reply,
-    queue: Option<Target>,
-    transfers: &[IdTransfer],
-) -> EntryFact
-    requires few { (n : ℕ) → times n transfers.now < 2 ^ 32 }
-    ensures { result ≡ fact_after (shown fact) queue transfers.now reply.now }
-{
-    match queue {
-        Some(queue) => took_fact(fact, queue, transfers, reply),
-        None => fact.fact(),
-    }
-}
-
 fn append_all(list: &mut Vec<u32>, more: &[u32])
     requires { vec_len list.old + length more.now ≤ vec_capacity list.old }
     ensures { list.new.items ≡ list.old.items ++ more.now }
@@ -395,7 +380,30 @@ impl Notes {
         ensures dying { self.new.dying ≡ self.old.dying ++ step.now.work.dying }
         ensures transfers { AreTransferred step.now.work.renamed self.old.transfers self.new.transfers }
     {
-        let fact = fact_after(fact, &reply, step.news().taken_from(), &self.transfers);
+        match step.news().taken_from() {
+            Some(queue) => {
+                let fact = took_fact(fact, queue, &self.transfers, &reply);
+                self.note_fact(fact, step);
+            }
+            None => self.note_fact(fact.fact(), step),
+        }
+    }
+
+    /// Notes an entry that is this to the laws.
+    ///
+    /// It is inlined for a take and for all others, so that the fact of neither comes through memory.
+    #[inline(always)]
+    fn note_fact(&mut self, fact: EntryFact, step: &Step)
+        requires room { 0 < self.old.room }
+        requires dying { length step.now.work.dying ≤ self.old.room }
+        requires few_notes { length self.old.notes < 2 ^ 32 }
+        requires few { (n : ℕ) → times n self.old.transfers < 2 ^ 32 }
+        requires one { length step.now.work.renamed ≤ 1 }
+        ensures notes { self.new.notes
+            ≡ self.old.notes ++ note_with fact (length self.old.dying) step.now.work ∷ [] }
+        ensures dying { self.new.dying ≡ self.old.dying ++ step.now.work.dying }
+        ensures transfers { AreTransferred step.now.work.renamed self.old.transfers self.new.transfers }
+    {
         let plain = step.news().is_plain();
         if plain && self.list.push_fact(&fact, self.dying.len() as u32) {
             self.room = room_left(&self.list, self.room);

@@ -2,17 +2,8 @@ use Rattle.std.proofs.Common.{ℕ, ◌<◌, ◌^◌, subst, sym}
 use Rattle.tr_kernel.specs.KeptNotes.{KeptNotes}
 use Rattle.tr_kernel.specs.Notes.{times}
 use Rattle.tr_kernel.proofs.notes.Notes.note_made.Goals as goal
-use Rattle.tr_kernel.proofs.notes.Notes.note_made.Goals.{else-plain-via-then-plain+else-push_fact, else-plain-via-else-plain}
 
-pub fact_after-fact-requires : goal.fact_after-fact-requires
-fact_after-fact-requires c =
+pub took_fact-fact-requires : goal.took_fact-fact-requires
+took_fact-fact-requires c =
     let few = subst (λ (v : KeptNotes). (n : ℕ) → times n v.transfers < 2 ^ 32) (sym c.self.view_is) c.requires.few in
     record { few = subst (λ ts. (n : ℕ) → times n ts < 2 ^ 32) (sym c.deref.ensures.value) few }
-
-pub count_first_transfer-requires-clause-few : goal.count_first_transfer-requires-clause-few
-count_first_transfer-requires-clause-few c =
-    let few = subst (λ (v : KeptNotes). (n : ℕ) → times n v.transfers < 2 ^ 32) (sym c.self.view_is) c.requires.few in
-    elim c.else-plain.branch [
-      | else-plain-via-then-plain+else-push_fact w ↦ rw (w.self-inside-is) few
-      | else-plain-via-else-plain w ↦ rw (w.self-inside-is) few
-    ]
