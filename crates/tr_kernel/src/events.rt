@@ -109,6 +109,7 @@ pub(crate) fn change(
 }
 
 /// Makes a rare event that is due, as `change`.
+#[cold]
 #[inline(never)]
 fn change_rarely(
     step: &mut Step,

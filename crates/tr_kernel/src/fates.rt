@@ -81,6 +81,7 @@ impl Fates {
     }
 
     /// Makes room for so many more numbers.
+    #[cold]
     #[inline(never)]
     pub(crate) fn reserve(&mut self, more: usize) -> Result<(), AllocError>
         ensures fates { self.new.fates ≡ self.old.fates }

@@ -83,6 +83,7 @@ impl Journal {
     }
 
     /// Makes room for one more entry.
+    #[cold]
     #[inline(never)]
     pub(crate) fn reserve_one(&mut self) -> Result<(), AllocError>
         ensures entries { self.new.entries ≡ self.old.entries }

@@ -314,6 +314,7 @@ impl Notes {
     /// Makes room for the note of one entry, by which at most this many deaths of groups begin. Where memory is refused
     /// the notes are as before. It is refused also where 2^32 deaths might come to be listed, since a
     /// note counts them in four bytes.
+    #[cold]
     #[inline(never)]
     pub(crate) fn reserve(&mut self, deaths: usize) -> Result<(), AllocError>
         ensures notes { self.new.notes ≡ self.old.notes }

@@ -84,6 +84,7 @@ impl Step {
         }
     }
 
+    #[cold]
     #[inline(never)]
     fn complete_stop(&mut self, tgid: u32)
         requires { 1 ≤ self.old.room }
@@ -129,6 +130,7 @@ impl Step {
         }
     }
 
+    #[cold]
     #[inline(never)]
     fn complete_each_group_stop(&mut self)
         requires { length self.old.work.table.groups ≤ self.old.room }

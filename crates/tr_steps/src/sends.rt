@@ -16,6 +16,7 @@ use tr_sigset::Signal;
 impl Step {
     // First: KILL is delivered at once, whichever thread it aims at; a group whose threads are all dead flushes it.
 
+    #[cold]
     #[inline(never)]
     fn send_kill(&mut self, tgid: u32)
         requires { 3 ≤ self.old.room }
@@ -138,6 +139,7 @@ impl Step {
     }
 
     /// Sends a stop signal, or SIGCONT, to what can be reached.
+    #[cold]
     #[inline(never)]
     fn send_job_control(&mut self, signal: Signal, info: &Info, target: Target)
         requires { 2 ≤ self.old.room }

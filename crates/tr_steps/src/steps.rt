@@ -168,6 +168,7 @@ impl Step {
     }
 
     /// Places in an empty log for all that so many moves may log, and in the table for all that they may queue.
+    #[cold]
     #[inline(never)]
     fn grow(&mut self, moves: usize) -> Result<(), AllocError>
         requires empty { self.old ≡ begun self.old.work.table }

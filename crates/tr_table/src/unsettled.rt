@@ -209,6 +209,7 @@ impl Table {
     }
 
     /// Looks at the groups that something happened to.
+    #[cold]
     #[inline(never)]
     fn settle_touched(&mut self)
         ensures { self.new ≡ self.old }
