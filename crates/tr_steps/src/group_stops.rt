@@ -9,6 +9,7 @@ ghost use Rattle.tr_model.specs.Tables.{group_of, has_stop_mark, has_traced, sto
 ghost use Rattle.tr_tracee.specs.Marks.{cont_noted};
 ghost use Rattle.tr_tracee.specs.Threads.{at_group};
 ghost use Rattle.tr_steps.specs.UnderWay.{Moves};
+ghost use Rattle.tr_table.specs.Settled.{NoStopBut};
 
 use crate::steps::Step;
 use tr_sigset::Signal;
@@ -106,24 +107,40 @@ impl Step {
 
     /// The last change of a step: a group-stop whose threads have all stopped is complete.
     #[inline(always)]
+    #[tactic(auto, using(tr_table::proofs::Settling::none_complete))]
     pub fn complete_group_stops(&mut self)
         requires { length self.old.work.table.groups ≤ self.old.room }
         ensures work { self.new.work ≡ complete_group_stops self.old.work }
         ensures taken_from { self.new.taken_from ≡ self.old.taken_from }
     {
-        self.complete_unsettled();
-        self.table.settle();
+        match self.table.settle() {
+            Unsettled::Nowhere => {}
+            unsettled => self.complete_unsettled(unsettled),
+        }
     }
 
-    /// The same, before the table is settled: no group is looked at that nothing happened to.
-    #[inline(always)]
-    #[tactic(auto, using(tr_table::proofs::Settling::none_complete, tr_table::proofs::Settling::one_complete, tr_table::proofs::Settling::some_there))]
-    fn complete_unsettled(&mut self)
-        requires { length self.old.work.table.groups ≤ self.old.room }
+    /// The same, where no stop of another group than these can be complete. The table is settled again.
+    #[cold]
+    #[inline(never)]
+    fn complete_unsettled(&mut self, unsettled: Unsettled)
+        requires room { length self.old.work.table.groups ≤ self.old.room }
+        requires stops { NoStopBut unsettled self.old.work.table.threads self.old.work.table.groups }
         ensures work { self.new.work ≡ complete_group_stops self.old.work }
         ensures taken_from { self.new.taken_from ≡ self.old.taken_from }
     {
-        match self.table.unsettled() {
+        self.complete_in(unsettled);
+        let _open = self.table.settle();
+    }
+
+    /// The stops of these groups are complete, where all their threads have stopped.
+    #[tactic(auto, using(tr_table::proofs::Settling::none_complete, tr_table::proofs::Settling::one_complete, tr_table::proofs::Settling::some_there))]
+    fn complete_in(&mut self, unsettled: Unsettled)
+        requires room { length self.old.work.table.groups ≤ self.old.room }
+        requires stops { NoStopBut unsettled self.old.work.table.threads self.old.work.table.groups }
+        ensures work { self.new.work ≡ complete_group_stops self.old.work }
+        ensures taken_from { self.new.taken_from ≡ self.old.taken_from }
+    {
+        match unsettled {
             Unsettled::In(tgid) if self.can_complete(tgid) => self.complete_stop(tgid),
             Unsettled::Nowhere | Unsettled::In(_) => {}
             Unsettled::Anywhere => self.complete_each_group_stop(),

@@ -148,6 +148,10 @@ fn relist_group(places: &mut Multiset, groups: &Groups, tgid: u32, tells: bool) 
     ensures own { result ≡ true
         → (tells && not (is_listed groups.now places.new.numbers tgid)) ≡ false }
 {
+    // Mostly no group has anything to tell.
+    if !tells && places.is_empty() {
+        return true;
+    }
     match groups.place(tgid) {
         Some(place) => relist(places, place as u32, tells),
         None => !tells,
@@ -192,10 +196,12 @@ impl Table {
         some_tells(&self.threads, self.groups.with_id(tgid))
     }
 
-    /// Looks at the groups that something happened to, so that none of them has to be looked at again.
+    /// Looks at the groups that something happened to, so that none of them has to be looked at again but those whose
+    /// stops may be complete, and gives these.
     #[inline(always)]
-    pub fn settle(&mut self)
-        ensures { self.new ≡ self.old }
+    pub fn settle(&mut self) -> Unsettled
+        ensures unchanged { self.new ≡ self.old }
+        ensures stops { NoStopBut result self.new.table.threads self.new.table.groups }
     {
         if self.groups.stopping() == 0
             && !self.groups.has_notes()
@@ -203,16 +209,16 @@ impl Table {
             && self.telling.is_empty()
         {
             self.unsettled = Unsettled::Nowhere;
-        } else {
-            self.settle_touched();
+            return Unsettled::Nowhere;
         }
+        self.settle_touched()
     }
 
     /// Looks at the groups that something happened to.
-    #[cold]
     #[inline(never)]
-    fn settle_touched(&mut self)
-        ensures { self.new ≡ self.old }
+    fn settle_touched(&mut self) -> Unsettled
+        ensures unchanged { self.new ≡ self.old }
+        ensures stops { NoStopBut result self.new.table.threads self.new.table.groups }
     {
         match self.unsettled {
             Unsettled::Nowhere => {}
@@ -230,5 +236,6 @@ impl Table {
                 }
             }
         }
+        self.unsettled()
     }
 }

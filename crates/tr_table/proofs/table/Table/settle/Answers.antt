@@ -17,3 +17,7 @@ invariant_of-self c =
       ordered = c.self.invariant.ordered;
       settled = λ g. ap (λ (b : Bool). b && not (has_mark ts g) || tells_of ts xs g && not (listed g)) (stops g) ∙ ap (λ (b : Bool). b && not (listed g)) (told g);
     }
+
+pub returns-then-is_empty-clause-stops : goal.returns-then-is_empty-clause-stops
+returns-then-is_empty-clause-stops c g =
+    ap (λ (b : Bool). b && not (has_mark c.self.inside.threads g)) (none_in c.self.inside.groups (sym c.stopping.ensures ∙ c.if-stopping-eq0.true) g)
