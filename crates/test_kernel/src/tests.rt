@@ -78,7 +78,7 @@ fn same<T: PartialEq + Debug>(rt: &impl Abort, value: &T, want: &T) {
 
 /// That the one thread blocks USR1 from now on.
 fn blocks(rt: &impl Abort, kernel: &mut Kernel) {
-    assert_eq!(rt; block(kernel), Ok(Reply::Done));
+    same(rt, &block(kernel), &Ok(Reply::Done));
 }
 
 /// That a call is answered so.
@@ -89,7 +89,7 @@ fn expect_answer(
     event: &Event,
     want: &Result<Reply, Refusal>,
 ) {
-    assert_eq!(rt; kernel.step(actor, *event), *want);
+    same(rt, &kernel.step(actor, *event), want);
 }
 
 fn sent(n: u64, fate: Fate) -> Result<Reply, Refusal> {
@@ -97,7 +97,7 @@ fn sent(n: u64, fate: Fate) -> Result<Reply, Refusal> {
 }
 
 fn has_fate(rt: &impl Abort, kernel: &Kernel, number: u64, want: Option<Fate>) {
-    assert_eq!(rt; kernel.fate(number), want);
+    same(rt, &kernel.fate(number), &want);
 }
 
 #[test]
@@ -143,7 +143,7 @@ fn taken_signal_is_delivered(rt: HostRuntime) -> Result<(), Fail> {
 }
 
 fn has_queue(rt: &impl Abort, kernel: &Kernel, target: Target, want: usize) {
-    assert_eq!(rt; kernel.table().queue_len(target), want);
+    same(rt, &kernel.table().queue_len(target), &want);
 }
 
 #[test]
@@ -277,7 +277,7 @@ fn make(rt: &impl Abort, kernel: &mut Kernel, actor: u32, event: &Event) -> Resu
 
 /// That a USR1 is made an entry, and sent so.
 fn sends(rt: &impl Abort, kernel: &mut Kernel, n: u64, fate: Fate) -> Result<(), Fail> {
-    assert_eq!(rt; make(rt, kernel, 900, &KILL)?, Reply::Sent { n, fate });
+    same(rt, &make(rt, kernel, 900, &KILL)?, &Reply::Sent { n, fate });
     Ok(())
 }
 

@@ -1,4 +1,4 @@
-use super::{KILL, TAKE, kernel, sums_of};
+use super::{KILL, TAKE, kernel, same, sums_of};
 use std::process::Abort;
 use std::test::Fail;
 use tr_kernel::Kernel;
@@ -12,8 +12,8 @@ use tr_wait::Which;
 fn is_foreseen(rt: &impl Abort, kernel: &mut Kernel, actor: u32, event: Event) {
     let sums = sums_of(kernel);
     let foreseen = kernel.foresee(actor, &event);
-    assert_eq!(rt; sums_of(kernel), sums);
-    assert_eq!(rt; kernel.step(actor, event), foreseen);
+    same(rt, &sums_of(kernel), &sums);
+    same(rt, &kernel.step(actor, event), &foreseen);
 }
 
 /// Sends that wait, merge and take effect at once, a take, an attach, its stop, its waits, and refusals between them.
@@ -51,7 +51,7 @@ fn answers_are_as_foreseen(rt: HostRuntime) -> Result<(), Fail> {
 fn a_full_journal_is_foreseen(rt: HostRuntime) -> Result<(), Fail> {
     let mut kernel = kernel(&rt, 1)?;
     is_foreseen(&rt, &mut kernel, 900, KILL);
-    assert_eq!(rt; kernel.foresee(900, &KILL), Err(Refusal::JournalFull));
+    same(&rt, &kernel.foresee(900, &KILL), &Err(Refusal::JournalFull));
     is_foreseen(&rt, &mut kernel, 900, KILL);
     is_foreseen(&rt, &mut kernel, 900, Event::Kill { tgid: 11, sig: 10 });
     is_foreseen(&rt, &mut kernel, 900, Event::Kill { tgid: 10, sig: 0 });

@@ -19,8 +19,8 @@ fn is_entered(
     told: &Result<Reply, Refusal>,
 ) {
     let entries = kernel.journal().len();
-    assert_eq!(rt; kernel.hear(actor, *event, told), Ok(true));
-    assert_eq!(rt; kernel.journal().len() - entries, 1);
+    same(rt, &kernel.hear(actor, *event, told), &Ok(true));
+    same(rt, &(kernel.journal().len() - entries), &1);
 }
 
 /// That what is said of an answer is this, and nothing has changed.
@@ -33,7 +33,7 @@ fn is_said(
     want: &Result<bool, Refusal>,
 ) {
     let sums = super::sums_of(kernel);
-    assert_eq!(rt; kernel.hear(actor, *event, told), *want);
+    same(rt, &kernel.hear(actor, *event, told), want);
     same(rt, &super::sums_of(kernel), &sums);
 }
 

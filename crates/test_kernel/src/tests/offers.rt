@@ -1,5 +1,5 @@
-use super::kernel;
 use super::verdicts::{masked, sent, took};
+use super::{kernel, same};
 use std::test::Fail;
 use tr_kernel::Kernel;
 use tr_model::{Did, Event, Reply};
@@ -47,13 +47,15 @@ const TAKE: Event = Event::Take { tid: 10 };
 fn standard_signals_are_offered_by_number(rt: HostRuntime) -> Result<(), Fail> {
     let kernel = with_waiting(&rt, &[12, 34, 10])?;
     let want = [taken(3, 10, Did::Caught)?, taken(1, 12, Did::Dying)?];
-    assert_eq!(rt;
-        offers(&rt, &kernel, 10, &TAKE)?.as_slice(),
-        want.as_slice()
+    same(
+        &rt,
+        &offers(&rt, &kernel, 10, &TAKE)?.as_slice(),
+        &want.as_slice(),
     );
-    assert_eq!(rt;
-        offers(&rt, &kernel, 10, &Event::TakeAny { tgid: 10 })?.as_slice(),
-        want.as_slice()
+    same(
+        &rt,
+        &offers(&rt, &kernel, 10, &Event::TakeAny { tgid: 10 })?.as_slice(),
+        &want.as_slice(),
     );
     assert!(rt;
         offers(&rt, &kernel, 10, &Event::Take { tid: 11 })?
@@ -72,9 +74,10 @@ fn standard_signals_are_offered_by_number(rt: HostRuntime) -> Result<(), Fail> {
 fn one_real_time_signal_is_offered(rt: HostRuntime) -> Result<(), Fail> {
     let kernel = with_waiting(&rt, &[40, 34, 34])?;
     let want = [taken(2, 34, Did::Dying)?];
-    assert_eq!(rt;
-        offers(&rt, &kernel, 10, &TAKE)?.as_slice(),
-        want.as_slice()
+    same(
+        &rt,
+        &offers(&rt, &kernel, 10, &TAKE)?.as_slice(),
+        &want.as_slice(),
     );
     Ok(())
 }
@@ -102,9 +105,10 @@ fn a_tracer_is_offered_its_own_reports(rt: HostRuntime) -> Result<(), Fail> {
         word: 0x80057f,
         report: 1,
     }];
-    assert_eq!(rt;
-        offers(&rt, &kernel, 900, &wait)?.as_slice(),
-        want.as_slice()
+    same(
+        &rt,
+        &offers(&rt, &kernel, 900, &wait)?.as_slice(),
+        &want.as_slice(),
     );
     assert!(rt; offers(&rt, &kernel, 901, &wait)?.as_slice().is_empty());
     Ok(())
@@ -126,9 +130,10 @@ fn the_starter_is_offered_a_leaders_death(rt: HostRuntime) -> Result<(), Fail> {
         word: 0x300,
         report: 1,
     }];
-    assert_eq!(rt;
-        offers(&rt, &kernel, 1, &Event::StarterWait { which, flags })?.as_slice(),
-        want.as_slice()
+    same(
+        &rt,
+        &offers(&rt, &kernel, 1, &Event::StarterWait { which, flags })?.as_slice(),
+        &want.as_slice(),
     );
     Ok(())
 }

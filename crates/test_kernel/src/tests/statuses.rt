@@ -1,5 +1,6 @@
 ghost use Rattle.std.specs.Prelude.{◌≡◌};
 
+use super::same;
 use std::alloc::{AllocError, Global};
 use std::test::Fail;
 use tr_group::Action;
@@ -109,8 +110,8 @@ fn a_status_has_thirteen_lines(rt: HostRuntime) -> Result<(), Fail> {
     let table = table(rt.alloc())?;
     let mut page = empty_page(rt.alloc(), 7, 1000);
     assert!(rt; write_status_of(&table, 10, &mut page).is_ok());
-    assert_eq!(rt; page.bytes.as_slice(), TEXT);
-    assert_eq!(rt; page.failures, 0);
+    same(&rt, &page.bytes.as_slice(), &TEXT);
+    same(&rt, &page.failures, &0);
     Ok(())
 }
 
@@ -119,7 +120,7 @@ fn a_status_is_one_put(rt: HostRuntime) -> Result<(), Fail> {
     let table = table(rt.alloc())?;
     let mut page = empty_page(rt.alloc(), 1000, 1);
     assert!(rt; write_status_of(&table, 10, &mut page).is_ok());
-    assert_eq!(rt; page.bytes.as_slice(), TEXT);
+    same(&rt, &page.bytes.as_slice(), &TEXT);
     Ok(())
 }
 
@@ -128,9 +129,9 @@ fn a_failure_leaves_a_front(rt: HostRuntime) -> Result<(), Fail> {
     let table = table(rt.alloc())?;
     let mut page = empty_page(rt.alloc(), 5, 2);
     let result = write_status_of(&table, 10, &mut page);
-    assert_eq!(rt; result, Err(StatusFault::Write));
-    assert_eq!(rt; page.bytes.as_slice(), b"Name:\tdemo".as_slice());
-    assert_eq!(rt; page.failures, 1);
+    same(&rt, &result, &Err(StatusFault::Write));
+    same(&rt, &page.bytes.as_slice(), &b"Name:\tdemo".as_slice());
+    same(&rt, &page.failures, &1);
     Ok(())
 }
 
@@ -139,9 +140,9 @@ fn an_absent_thread_has_no_status(rt: HostRuntime) -> Result<(), Fail> {
     let table = table(rt.alloc())?;
     let mut page = empty_page(rt.alloc(), 100, 100);
     let result = write_status_of(&table, 12, &mut page);
-    assert_eq!(rt; result, Err(StatusFault::Srch));
+    same(&rt, &result, &Err(StatusFault::Srch));
     assert!(rt; page.bytes.is_empty());
-    assert_eq!(rt; page.failures, 0);
+    same(&rt, &page.failures, &0);
     Ok(())
 }
 
@@ -152,6 +153,6 @@ fn a_pausing_thread_sleeps(rt: HostRuntime) -> Result<(), Fail> {
     let mut page = empty_page(rt.alloc(), 10, 3);
     assert!(rt; write_status_of(&table, 11, &mut page).is_err());
     let text = b"Name:\tdemo\nState:\tS (sleeping)";
-    assert_eq!(rt; page.bytes.as_slice(), text.as_slice());
+    same(&rt, &page.bytes.as_slice(), &text.as_slice());
     Ok(())
 }

@@ -1,4 +1,4 @@
-use super::kernel;
+use super::{kernel, same};
 use std::process::Abort;
 use std::test::Fail;
 use tr_kernel::Kernel;
@@ -53,8 +53,8 @@ fn is_found(
     want: &Result<Verdict, Unheard>,
     entries: usize,
 ) {
-    assert_eq!(rt; compare(kernel, answers), *want);
-    assert_eq!(rt; kernel.journal().len(), entries);
+    same(rt, &compare(kernel, answers), want);
+    same(rt, &kernel.journal().len(), &entries);
 }
 
 #[test]

@@ -1,4 +1,4 @@
-use super::signal;
+use super::{same, same_of, signal};
 use std::test::Fail;
 use tr_group::{Action, GroupStop};
 
@@ -14,22 +14,23 @@ fn actions_and_group_stops(rt: HostRuntime) -> Result<(), Fail> {
         (19, false),
     ] {
         let signal = signal(number)?;
-        assert_eq!(rt;
-            Action::Default.ignores(signal),
-            does_nothing,
-            "at {number}"
+        same_of(
+            &rt,
+            &Action::Default.ignores(signal),
+            &does_nothing,
+            &number,
         );
         assert!(rt; Action::Ignore.ignores(signal) && !Action::Catch.ignores(signal));
     }
     let mut stop = GroupStop::No;
     stop.complete();
-    assert_eq!(rt; stop.signal(), None);
+    same(&rt, &stop.signal(), &None);
     stop.begin(signal(20)?);
     assert!(rt; stop.is_stopping() && !stop.is_complete());
     stop.begin(signal(19)?);
     stop.complete();
     assert!(rt; stop.is_complete() && !stop.is_stopping());
     stop.begin(signal(19)?);
-    assert_eq!(rt; stop, GroupStop::Stopped(signal(20)?));
+    same(&rt, &stop, &GroupStop::Stopped(signal(20)?));
     Ok(())
 }

@@ -1,5 +1,6 @@
 ghost use Rattle.std.specs.Prelude.{◌<◌, ◌≤◌};
 
+use super::same_of;
 use std::process::Abort;
 use tr_lanes::{count_holding, first_clear, first_ready, hex16, ready_rows, union_all};
 use tr_sigset::Signal;
@@ -84,21 +85,18 @@ fn check_first_clear(rt: &impl Abort, length: usize)
 {
     let (signal, bit) = tried_signal(rt, length);
     let mut rows = [bit; MOST];
-    assert_eq!(rt;
-        first_clear(&rows[..length], signal),
-        None,
-        "no row of {length}"
-    );
+    same_of(rt, &first_clear(&rows[..length], signal), &None, &length);
     for place in 0..length {
         if is_tried_at(place, length) {
             rows[place] = !bit;
             let found = first_clear(&rows[..length], signal);
-            assert_eq!(rt;
-                found,
-                plain_first_clear(&rows[..length], bit),
-                "row {place} of {length}"
+            same_of(
+                rt,
+                &found,
+                &plain_first_clear(&rows[..length], bit),
+                &(place, length),
             );
-            assert_eq!(rt; found, Some(place), "row {place} of {length}");
+            same_of(rt, &found, &Some(place), &(place, length));
             rows[place] = bit;
         }
     }
@@ -154,20 +152,23 @@ fn check_first_ready(rt: &impl Abort, length: usize)
     let (_, bit) = tried_signal(rt, length);
     for place in 0..length {
         if is_tried_at(place, length) {
-            assert_eq!(rt;
-                found_by_own(place, length, bit),
-                Some(place),
-                "row {place} of {length}"
+            same_of(
+                rt,
+                &found_by_own(place, length, bit),
+                &Some(place),
+                &(place, length),
             );
-            assert_eq!(rt;
-                found_by_mask(place, length, bit),
-                Some(place),
-                "row {place} of {length}"
+            same_of(
+                rt,
+                &found_by_mask(place, length, bit),
+                &Some(place),
+                &(place, length),
             );
-            assert_eq!(rt;
-                found_by_run(place, length, bit),
-                Some(place),
-                "row {place} of {length}"
+            same_of(
+                rt,
+                &found_by_run(place, length, bit),
+                &Some(place),
+                &(place, length),
             );
         }
     }
@@ -183,11 +184,12 @@ fn check_mixed_search(rt: &impl Abort, length: usize)
     for place in 0..length {
         words[place] = plain_ready(own[place], own[place], 6, u64::MAX);
     }
-    assert_eq!(rt; found, plain_first(&words[..length]), "{length} rows");
-    assert_eq!(rt;
-        first_ready(&own[..length], &own[..length], 0, &runnable[..length]),
-        None,
-        "no row of {length}"
+    same_of(rt, &found, &plain_first(&words[..length]), &length);
+    same_of(
+        rt,
+        &first_ready(&own[..length], &own[..length], 0, &runnable[..length]),
+        &None,
+        &length,
     );
 }
 
@@ -219,8 +221,8 @@ fn check_ready_rows(rt: &impl Abort, length: usize)
         &runnable[..length],
         &mut out[..length],
     );
-    assert_eq!(rt; &out[..length], &want[..length], "{length} rows");
-    assert_eq!(rt; &out[length..], &mixed(4)[length..], "after {length} rows");
+    same_of(rt, &&out[..length], &&want[..length], &length);
+    same_of(rt, &&out[length..], &&mixed(4)[length..], &length);
 }
 
 #[test]
@@ -240,18 +242,19 @@ fn check_union_all(rt: &impl Abort, length: usize)
     for place in 0..length {
         if is_tried_at(place, length) {
             rows[place] = bit;
-            assert_eq!(rt; union_all(&rows[..length]), bit, "row {place} of {length}");
+            same_of(rt, &union_all(&rows[..length]), &bit, &(place, length));
             rows[place] = 0;
         }
     }
-    assert_eq!(rt; union_all(&rows[..length]), 0, "no row of {length}");
+    same_of(rt, &union_all(&rows[..length]), &0, &length);
     for place in 0..length {
         rows[place] = 1 << (place % 64);
     }
-    assert_eq!(rt;
-        union_all(&rows[..length]),
-        plain_union(&rows[..length]),
-        "{length} rows"
+    same_of(
+        rt,
+        &union_all(&rows[..length]),
+        &plain_union(&rows[..length]),
+        &length,
     );
 }
 
@@ -269,33 +272,32 @@ fn check_count_holding(rt: &impl Abort, length: usize)
 {
     let (signal, bit) = tried_signal(rt, length);
     let mut rows = [!bit; MOST];
-    assert_eq!(rt;
-        count_holding(&rows[..length], signal),
-        0,
-        "no row of {length}"
-    );
+    same_of(rt, &count_holding(&rows[..length], signal), &0, &length);
     for place in 0..length {
         if is_tried_at(place, length) {
             rows[place] = bit;
-            assert_eq!(rt;
-                count_holding(&rows[..length], signal),
-                1,
-                "row {place} of {length}"
+            same_of(
+                rt,
+                &count_holding(&rows[..length], signal),
+                &1,
+                &(place, length),
             );
             rows[place] = !bit;
         }
     }
     let rows = mixed(5);
-    assert_eq!(rt;
-        count_holding(&rows[..length], signal),
-        plain_count(&rows[..length], bit),
-        "{length} rows"
+    same_of(
+        rt,
+        &count_holding(&rows[..length], signal),
+        &plain_count(&rows[..length], bit),
+        &length,
     );
     let rows = [u64::MAX; MOST];
-    assert_eq!(rt;
-        count_holding(&rows[..length], signal),
-        length,
-        "all of {length} rows"
+    same_of(
+        rt,
+        &count_holding(&rows[..length], signal),
+        &length,
+        &length,
     );
 }
 
@@ -317,7 +319,7 @@ fn hex16_of_known_words(rt: HostRuntime) {
         (81985529216486895, b"0123456789abcdef"),
         (18364758544493064720, b"fedcba9876543210"),
     ] {
-        assert_eq!(rt; &hex16(word), text, "{word}");
+        same_of(&rt, &hex16(word), text, &word);
     }
 }
 
@@ -326,6 +328,6 @@ fn hex16_of_each_bit(rt: HostRuntime) {
     for place in 0..64 {
         let mut text = *b"0000000000000000";
         text[15 - place / 4] = b"1248"[place % 4];
-        assert_eq!(rt; hex16(1 << place), text, "bit {place}");
+        same_of(&rt, &hex16(1 << place), &text, &place);
     }
 }

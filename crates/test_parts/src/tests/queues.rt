@@ -1,4 +1,5 @@
-use super::signal;
+use super::{same, same_of, signal};
+use std::process::Abort;
 use std::test::Fail;
 use tr_pending::{Info, Instance, Put, Queue};
 use tr_sigset::SigSet;
@@ -25,8 +26,8 @@ fn reserve_and_put(queue: &mut Queue, instance: Instance) -> Result<Put, Fail> {
     Ok(queue.put(instance))
 }
 
-#[test]
-fn standard_signals_merge_and_real_time_signals_queue(rt: HostRuntime) -> Result<(), Fail> {
+/// A USR1, which another merges with, and two of signal 34.
+fn with_three(rt: &(impl AllocGlobal + Abort)) -> Result<Queue, Fail> {
     let mut queue = Queue::new(rt.alloc());
     assert!(rt; queue.is_empty());
     let puts = [
@@ -36,21 +37,30 @@ fn standard_signals_merge_and_real_time_signals_queue(rt: HostRuntime) -> Result
         (4, 34, Put::Queued),
     ];
     for (n, number, want) in puts {
-        assert_eq!(rt;
-            reserve_and_put(&mut queue, instance(n, number)?)?,
-            want,
-            "at {n}"
-        );
+        let put = reserve_and_put(&mut queue, instance(n, number)?)?;
+        same_of(rt, &put, &want, &n);
     }
-    assert_eq!(rt; queue.len(), 3);
-    assert_eq!(rt; queue.best(SigSet::empty()), Some(instance(1, 10)?));
-    assert_eq!(rt; queue.best(set_of(10)?), Some(instance(3, 34)?));
-    assert_eq!(rt; queue.take_sig(signal(34)?), Some(instance(3, 34)?));
+    Ok(queue)
+}
+
+#[test]
+fn standard_signals_merge_and_real_time_signals_queue(rt: HostRuntime) -> Result<(), Fail> {
+    let queue = with_three(&rt)?;
+    same(&rt, &queue.len(), &3);
+    same(&rt, &queue.best(SigSet::empty()), &Some(instance(1, 10)?));
+    same(&rt, &queue.best(set_of(10)?), &Some(instance(3, 34)?));
+    Ok(())
+}
+
+#[test]
+fn the_first_of_a_signal_is_taken_and_a_set_flushed(rt: HostRuntime) -> Result<(), Fail> {
+    let mut queue = with_three(&rt)?;
+    same(&rt, &queue.take_sig(signal(34)?), &Some(instance(3, 34)?));
     let mut gone = Vec::with_capacity(rt.alloc(), queue.len())?;
-    assert_eq!(rt; queue.flush(set_of(10)?, &mut gone), 1);
-    assert_eq!(rt; gone.as_slice(), [1].as_slice());
-    assert_eq!(rt; queue.mask(), set_of(34)?);
-    assert_eq!(rt; queue.best(set_of(34)?), None);
+    same(&rt, &queue.flush(set_of(10)?, &mut gone), &1);
+    same(&rt, &gone.as_slice(), &[1].as_slice());
+    same(&rt, &queue.mask(), &set_of(34)?);
+    same(&rt, &queue.best(set_of(34)?), &None);
     Ok(())
 }
 
@@ -62,14 +72,14 @@ fn a_refused_place_leaves_the_queue_as_it_was(rt: HostRuntime) -> Result<(), Fai
         let first = queue.best(SigSet::empty());
         let mask = queue.mask();
         if queue.reserve_one().is_err() {
-            assert_eq!(rt; queue.len() as u64, n);
-            assert_eq!(rt; queue.best(SigSet::empty()), first);
-            assert_eq!(rt; queue.mask(), mask);
+            same(&rt, &(queue.len() as u64), &n);
+            same(&rt, &queue.best(SigSet::empty()), &first);
+            same(&rt, &queue.mask(), &mask);
             queue.reserve_one()?;
         }
-        assert_eq!(rt; queue.put(instance(n, 34)?), Put::Queued);
+        same(&rt, &queue.put(instance(n, 34)?), &Put::Queued);
     }
-    assert_eq!(rt; queue.len(), 40);
-    assert_eq!(rt; queue.take_sig(signal(34)?), Some(instance(0, 34)?));
+    same(&rt, &queue.len(), &40);
+    same(&rt, &queue.take_sig(signal(34)?), &Some(instance(0, 34)?));
     Ok(())
 }

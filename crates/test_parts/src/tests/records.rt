@@ -1,16 +1,10 @@
-use super::{set_of, signal};
-use std::fmt::Debug;
+use super::{same, same_of, set_of, signal};
 use std::process::Abort;
 use std::test::Fail;
 use tr_pending::{Info, Instance};
 use tr_sigset::SigSet;
 use tr_tracee::{End, Life, Options, Report, Stop, Thread, Trace};
 use tr_wait::{Status, StopSig};
-
-/// That a value is the one that is wanted; `of` is told where it isn't.
-fn same<T: PartialEq + Debug, O: Debug>(rt: &impl Abort, value: &T, want: &T, of: &O) {
-    assert_eq!(rt; *value, *want, "of {of:?}");
-}
 
 /// The third signal that was accepted: USR1, by kill(2).
 fn third() -> Result<Instance, Fail> {
@@ -130,30 +124,30 @@ fn is_reported(rt: &impl Abort, case: &Case, entered: &Thread) {
         number: 5,
         status: case.status,
     };
-    same(rt, &entered.report, &Some(report), &case.stop);
-    same(rt, &entered.life.held(), &case.held, &case.stop);
-    same(rt, &entered.note_mark, &!case.stop.is_event(), &case.stop);
+    same_of(rt, &entered.report, &Some(report), &case.stop);
+    same_of(rt, &entered.life.held(), &case.held, &case.stop);
+    same_of(rt, &entered.note_mark, &!case.stop.is_event(), &case.stop);
     assert!(rt; !entered.trap_mark && entered.life.is_in_stop());
 }
 
 fn stays_when_detached(rt: &impl Abort, case: &Case, entered: &Thread) {
     let mut detached = *entered;
     detached.detach(true);
-    same(rt, &detached, entered, &case.stop);
+    same_of(rt, &detached, entered, &case.stop);
 }
 
 fn is_listened_to(rt: &impl Abort, case: &Case, entered: &Thread) {
     let mut listening = *entered;
     listening.listen();
-    same(rt, &listening.life, &case.listening, &case.stop);
+    same_of(rt, &listening.life, &case.listening, &case.stop);
     assert!(rt; listening.joined && listening.report.is_none());
 }
 
 fn is_restarted(rt: &impl Abort, case: &Case, entered: &Thread) {
     let mut restarted = *entered;
-    same(rt, &restarted.restart(), &case.held, &case.stop);
-    same(rt, &restarted.life, &case.restarted, &case.stop);
-    same(rt, &restarted.joined, &case.takes_part, &case.stop);
+    same_of(rt, &restarted.restart(), &case.held, &case.stop);
+    same_of(rt, &restarted.life, &case.restarted, &case.stop);
+    same_of(rt, &restarted.joined, &case.takes_part, &case.stop);
     assert!(rt; restarted.report.is_none());
 }
 
@@ -205,8 +199,8 @@ fn detaching(rt: HostRuntime) {
         thread.trap_mark = true;
         thread.note_mark = true;
         thread.detach(*in_effect);
-        assert_eq!(rt; thread.life, *want, "from {life:?}");
-        assert_eq!(rt; thread.joined, *joined, "from {life:?}");
+        same_of(&rt, &thread.life, want, &life);
+        same_of(&rt, &thread.joined, joined, &life);
         assert!(rt; !thread.is_traced() && !thread.is_seized() && !thread.has_mark());
     }
 }
@@ -247,7 +241,7 @@ fn beginning_to_leave(rt: HostRuntime) -> Result<(), Fail> {
     for (life, options, kill, want) in &cases {
         let mut thread = seized(life, *options);
         thread.begin_to_leave(*kill, &end);
-        assert_eq!(rt; thread.life, *want, "from {life:?}, by KILL: {kill}");
+        same_of(&rt, &thread.life, want, &(life, kill));
     }
     Ok(())
 }
@@ -274,8 +268,8 @@ fn marks(rt: HostRuntime) -> Result<(), Fail> {
         let mut thread = seized(&life, Options::NONE);
         thread.mark();
         thread.note();
-        assert_eq!(rt; thread.stop_mark, live, "at {life:?}");
-        assert_eq!(rt; thread.note_mark, live, "at {life:?}");
+        same_of(&rt, &thread.stop_mark, &live, &life);
+        same_of(&rt, &thread.note_mark, &live, &life);
     }
     let mut stopped = seized(&Life::Stopped, Options::NONE);
     stopped.trace = None;
@@ -290,7 +284,7 @@ fn marks(rt: HostRuntime) -> Result<(), Fail> {
     assert!(rt; stopped.is_ready_to_take() && !stopped.joined);
     let mut tracee = seized(&Life::InStop(caught(false)?), Options::NONE);
     tracee.note_cont();
-    assert_eq!(rt; tracee.life, Life::InStop(caught(true)?));
+    same(&rt, &tracee.life, &Life::InStop(caught(true)?));
     Ok(())
 }
 
@@ -299,16 +293,17 @@ fn marks(rt: HostRuntime) -> Result<(), Fail> {
 fn masks_and_pauses(rt: HostRuntime) -> Result<(), Fail> {
     let mut thread = seized(&Life::Free, Options::NONE);
     thread.set_mask(set_of(&[9, 10, 19, 34])?);
-    assert_eq!(rt; thread.mask, set_of(&[10, 34])?);
+    same(&rt, &thread.mask, &set_of(&[10, 34])?);
     thread.set_pausing(true);
     assert!(rt; thread.pausing && thread.is_ready_to_take() && !thread.is_leader());
-    assert_eq!(rt; thread.options(), Options::NONE);
+    same(&rt, &thread.options(), &Options::NONE);
     thread.interrupt();
     assert!(rt; thread.has_mark() && !thread.is_ready_to_take());
-    assert_eq!(rt; End::Exited(3).status(), Status::Exited(3));
-    assert_eq!(rt;
-        End::Killed(signal(9)?).status(),
-        Status::Killed(signal(9)?)
+    same(&rt, &End::Exited(3).status(), &Status::Exited(3));
+    same(
+        &rt,
+        &End::Killed(signal(9)?).status(),
+        &Status::Killed(signal(9)?),
     );
     Ok(())
 }

@@ -1,4 +1,4 @@
-use super::{set_of, signal};
+use super::{same, same_of, set_of, signal};
 use std::process::Abort;
 use std::test::Fail;
 use tr_sigset::{Base, SigSet, Signal};
@@ -8,7 +8,7 @@ fn assert_action(rt: &impl Abort, want: Base, group: &[(&str, u8)]) -> Result<Si
     let mut set = SigSet::empty();
     for (name, number) in group {
         let signal = signal(*number)?;
-        assert_eq!(rt; signal.default_action(), want, "of {name}");
+        same_of(rt, &signal.default_action(), &want, &name);
         set = set.with(signal);
     }
     Ok(set)
@@ -51,7 +51,7 @@ fn default_actions(rt: HostRuntime) -> Result<(), Fail> {
         .union(assert_action(&rt, Base::Ignored, &ignored)?)
         .union(assert_action(&rt, Base::Stop, &stop)?)
         .union(assert_action(&rt, Base::Continue, &[("CONT", 18)])?);
-    assert_eq!(rt; seen.bits(), 0x7fff_ffff, "HUP to SYS are named");
+    same_of(&rt, &seen.bits(), &0x7fff_ffff, &"HUP to SYS");
     Ok(())
 }
 
@@ -61,25 +61,25 @@ fn a_real_time_signal_ends_the_process(rt: HostRuntime) -> Result<(), Fail> {
         let signal = signal(number)?;
         assert!(rt; signal.is_real_time(), "{number}");
         assert!(rt; !signal.is_stop(), "{number}");
-        assert_eq!(rt; signal.default_action(), Base::Term, "of {number}");
+        same_of(&rt, &signal.default_action(), &Base::Term, &number);
     }
     assert!(rt; !signal(31)?.is_real_time());
     assert!(rt; signal(22)?.is_stop());
-    assert_eq!(rt; Signal::new(0), None);
-    assert_eq!(rt; Signal::new(65), None);
+    same(&rt, &Signal::new(0), &None);
+    same(&rt, &Signal::new(65), &None);
     Ok(())
 }
 
 #[test]
 fn sets(rt: HostRuntime) -> Result<(), Fail> {
     let set = set_of(&[9, 64, 2])?;
-    assert_eq!(rt; set.bits(), 0x8000_0000_0000_0102);
-    assert_eq!(rt; set, SigSet::from_bits(0x8000_0000_0000_0102));
+    same(&rt, &set.bits(), &0x8000_0000_0000_0102);
+    same(&rt, &set, &SigSet::from_bits(0x8000_0000_0000_0102));
     assert!(rt; set.has(signal(64)?));
     assert!(rt; !set.has(signal(3)?));
-    assert_eq!(rt; set.least(), Some(signal(2)?));
-    assert_eq!(rt; set.without(signal(2)?), set_of(&[9, 64])?);
-    assert_eq!(rt; set.minus(set_of(&[2, 3, 9])?), set_of(&[64])?);
-    assert_eq!(rt; SigSet::empty().least(), None);
+    same(&rt, &set.least(), &Some(signal(2)?));
+    same(&rt, &set.without(signal(2)?), &set_of(&[9, 64])?);
+    same(&rt, &set.minus(set_of(&[2, 3, 9])?), &set_of(&[64])?);
+    same(&rt, &SigSet::empty().least(), &None);
     Ok(())
 }

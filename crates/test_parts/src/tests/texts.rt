@@ -1,3 +1,4 @@
+use super::same;
 use tr_text::TextBuffer;
 
 #[test]
@@ -7,7 +8,7 @@ fn pieces_come_before_the_text(rt: HostRuntime) {
     text.prepend(b"fgh");
     text.prepend(b"");
     text.prepend(b"abcde");
-    assert_eq!(rt; text.as_bytes(), b"abcdefgh".as_slice());
+    same(&rt, &text.as_bytes(), &b"abcdefgh".as_slice());
 }
 
 #[test]
@@ -16,7 +17,7 @@ fn numbers_are_decimal(rt: HostRuntime) {
     text.prepend_number(0);
     text.prepend(b" ");
     text.prepend_number(18446744073709551615);
-    assert_eq!(rt; text.as_bytes(), b"18446744073709551615 0".as_slice());
+    same(&rt, &text.as_bytes(), &b"18446744073709551615 0".as_slice());
 }
 
 #[test]
@@ -29,7 +30,11 @@ fn signed_numbers_have_a_sign_below_0(rt: HostRuntime) {
     text.prepend_signed(0);
     text.prepend(b" ");
     text.prepend_signed(-1);
-    assert_eq!(rt; text.as_bytes(), b"-1 0 2147483647 -2147483648".as_slice());
+    same(
+        &rt,
+        &text.as_bytes(),
+        &b"-1 0 2147483647 -2147483648".as_slice(),
+    );
 }
 
 #[test]
@@ -42,5 +47,5 @@ fn hexadecimal_numbers_have_no_zero_before_others(rt: HostRuntime) {
     text.prepend_hexadecimal(0x10);
     text.prepend(b" ");
     text.prepend_hexadecimal(0);
-    assert_eq!(rt; text.as_bytes(), b"0 10 80137f ffffffff".as_slice());
+    same(&rt, &text.as_bytes(), &b"0 10 80137f ffffffff".as_slice());
 }

@@ -1,4 +1,4 @@
-use super::signal;
+use super::{same, same_of, signal};
 use std::test::Fail;
 use tr_wait::{Status, StopSig, Which, Word, decode, encode, words_differ};
 
@@ -23,8 +23,8 @@ fn words_of_linux(rt: HostRuntime) -> Result<(), Fail> {
         (0xffff, Status::Continued),
     ];
     for (word, status) in statuses {
-        assert_eq!(rt; decode(Word(word)), Some(status), "at {word:x}");
-        assert_eq!(rt; encode(status), Word(word), "at {word:x}");
+        same_of(&rt, &decode(Word(word)), &Some(status), &word);
+        same_of(&rt, &encode(status), &Word(word), &word);
     }
     Ok(())
 }
@@ -32,7 +32,7 @@ fn words_of_linux(rt: HostRuntime) -> Result<(), Fail> {
 #[test]
 fn words_of_no_status(rt: HostRuntime) {
     for word in [0x7f, 0x41, 0x89, 0x417f, 0x80177f, 0x80, 0x10000] {
-        assert_eq!(rt; decode(Word(word)), None, "at {word:x}");
+        same_of(&rt, &decode(Word(word)), &None, &word);
     }
 }
 
@@ -45,7 +45,7 @@ fn a_wait_asks_for_one_id_or_any(rt: HostRuntime) {
         (Which::One(7), true),
         (Which::One(8), false),
     ] {
-        assert_eq!(rt; which.asks_for(7), want, "by {which:?}");
+        same_of(&rt, &which.asks_for(7), &want, &which);
     }
     for (shown, number) in [
         (StopSig::Trap, 5),
@@ -54,6 +54,6 @@ fn a_wait_asks_for_one_id_or_any(rt: HostRuntime) {
         (StopSig::Ttin, 21),
         (StopSig::Ttou, 22),
     ] {
-        assert_eq!(rt; shown.number(), number);
+        same(&rt, &shown.number(), &number);
     }
 }

@@ -8,10 +8,10 @@ const BLOCKED: u64 = 0xffff_ffff_fffb_feff;
 fn rows_are_in_table_order(rt: HostRuntime) -> Result<(), Fail> {
     let table = with_four(rt.alloc())?;
     let rows = table.rows(100).ok_or("no group 100")?;
-    assert_eq!(rt; rows.own(), [0, 1 << 33].as_slice());
-    assert_eq!(rt; rows.blocked(), [0, BLOCKED].as_slice());
-    assert_eq!(rt; rows.runnable(), [u64::MAX, u64::MAX].as_slice());
-    assert_eq!(rt; rows.shared(), 1 << 33 | 1 << 9);
+    same(&rt, &rows.own(), &[0, 1 << 33].as_slice());
+    same(&rt, &rows.blocked(), &[0, BLOCKED].as_slice());
+    same(&rt, &rows.runnable(), &[u64::MAX, u64::MAX].as_slice());
+    same(&rt, &rows.shared(), &(1 << 33 | 1 << 9));
     assert!(rt; table.rows(101).is_none());
     Ok(())
 }
@@ -22,10 +22,10 @@ fn rows_of_shared_signals_are_lent(rt: HostRuntime) -> Result<(), Fail> {
     let mut table = opened(rt.alloc())?;
     send(&mut table, 10, SHARED)?;
     let rows = table.shared_rows(100).ok_or("nothing is lent")?;
-    assert_eq!(rt; rows.own(), [0, 0].as_slice());
-    assert_eq!(rt; rows.blocked(), [0, BLOCKED].as_slice());
-    assert_eq!(rt; rows.runnable(), [u64::MAX, u64::MAX].as_slice());
-    assert_eq!(rt; rows.shared(), 1 << 9);
+    same(&rt, &rows.own(), &[0, 0].as_slice());
+    same(&rt, &rows.blocked(), &[0, BLOCKED].as_slice());
+    same(&rt, &rows.runnable(), &[u64::MAX, u64::MAX].as_slice());
+    same(&rt, &rows.shared(), &(1 << 9));
     assert!(rt; table.shared_rows(101).is_none());
     assert!(rt; with_four(rt.alloc())?.shared_rows(100).is_none());
     Ok(())
@@ -37,8 +37,8 @@ fn the_dead_block_nothing_and_the_marked_wait(rt: HostRuntime) -> Result<(), Fai
     kill_thread(&mut table, 101);
     table.change_members(100, &ThreadChange::Mark);
     let rows = table.rows(100).ok_or("no group 100")?;
-    assert_eq!(rt; rows.blocked(), [0, 0].as_slice());
-    assert_eq!(rt; rows.runnable(), [0, 0].as_slice());
+    same(&rt, &rows.blocked(), &[0, 0].as_slice());
+    same(&rt, &rows.runnable(), &[0, 0].as_slice());
     Ok(())
 }
 
@@ -60,9 +60,9 @@ fn rows_are(
     runnable: &[u64],
 ) -> Result<(), Fail> {
     let rows = table.rows(tgid).ok_or("no such group")?;
-    assert_eq!(rt; rows.blocked(), blocked);
-    assert_eq!(rt; rows.runnable(), runnable);
-    assert_eq!(rt; rows.own().len(), blocked.len());
+    same(rt, &rows.blocked(), &blocked);
+    same(rt, &rows.runnable(), &runnable);
+    same(rt, &rows.own().len(), &blocked.len());
     Ok(())
 }
 

@@ -76,7 +76,7 @@ fn a_group_stop_marks_the_live_of_one_group(rt: HostRuntime) -> Result<(), Fail>
     table.change_members(100, &ThreadChange::Mark);
     for thread in table.threads() {
         let want = matches!(thread.id, 100 | 101 | 102);
-        assert_eq!(rt; thread.stop_mark, want, "of {}", thread.id);
+        assert!(rt; thread.stop_mark == want, "of {}", thread.id);
     }
     Ok(())
 }

@@ -22,7 +22,7 @@ fn is_put(
     number: u8,
     want: Put,
 ) -> Result<(), Fail> {
-    assert_eq!(rt; put(table, target, number)?, want);
+    same(rt, &put(table, target, number)?, &want);
     Ok(())
 }
 

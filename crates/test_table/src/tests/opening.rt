@@ -45,10 +45,10 @@ fn has_action(
     number: u8,
     want: Action,
 ) -> Result<(), Fail> {
-    assert_eq!(rt;
-        table.action_of(tgid, signal(number)?),
-        want,
-        "at {tgid} {number}"
+    same(
+        rt,
+        &(tgid, number, table.action_of(tgid, signal(number)?)),
+        &(tgid, number, want),
     );
     Ok(())
 }
