@@ -3,12 +3,13 @@ use Rattle.std.proofs.Common.{◌≡◌, ◌∙◌, ◌==◌, ◌&&◌, ◌||◌
 use Rattle.std.specs.List.{list_any}
 use Rattle.std.proofs.lemmas.Bool.{and_right, cases_eq, cases_lt, eqb-true, le-ltb, lt-ltb, ne_eqb, or_from, or_parts}
 use Rattle.std.proofs.lemmas.List.{get_or-map, length-map}
+use Rattle.std.proofs.lemmas.Option.{slice_get-get_or}
 use Rattle.tr_group.specs.GroupStops.{is_stopping}
 use Rattle.tr_tracee.specs.declared.thread.Thread.{Thread}
 use Rattle.tr_tracee.specs.Threads.{in_group, is_traced}
 use Rattle.tr_model.specs.declared.rows.Group.{Group}
 use Rattle.tr_model.specs.Journals.{occurs}
-use Rattle.tr_model.specs.Tables.{Table, ids_of, thread_in}
+use Rattle.tr_model.specs.Tables.{Table, ids_of, stop_of, thread_in}
 use Rattle.tr_index.specs.Places.{place_in}
 use Rattle.tr_index.proofs.Places.{first, first_is}
 use Rattle.tr_index.proofs.Positions.{place_at}
@@ -17,7 +18,7 @@ use Rattle.tr_table.specs.Private.{IsGroupPlace, IsNextPlace, tgids_of}
 use Rattle.tr_table.specs.Settled.{NoneBut, can_complete, has_mark, is_listed, is_open, is_open_row, leader_died, tells, tells_of}
 use Rattle.tr_table.specs.Telling.{IsNextTelling, has_died, tells_starter}
 use Rattle.tr_table.specs.declared.unsettled.Unsettled.TheVariants.{In, Nowhere}
-use Rattle.tr_table.proofs.GroupLists.{ids_removed}
+use Rattle.tr_table.proofs.GroupLists.{ids_removed, with_id_nowhere, with_id_there}
 
 -- the leader's death
 
@@ -242,6 +243,29 @@ relisted_own (x ∷ xs) i g places b there once h =
     go : (b c : Bool) → (not b || c) ≡ true → (b && not c) ≡ false
     go true c k = ap not k
     go false c k = refl
+
+-- a group that isn't there isn't open, and one that is listed where it has something to tell is open for its stop alone
+
+pub closed_nowhere : (ts : List Thread) (xs : List Group) (listed : ℕ → Bool) (g : ℕ) → IsGroupPlace g xs None → is_open ts xs listed g ≡ false
+closed_nowhere ts xs listed g none = or_from _ _
+    (ap (λ o. is_stopping (stop_of o) && not (has_mark ts g)) none.1)
+    (ap (λ ys. list_any (tells ts) ys && not (listed g)) (sym (with_id_nowhere g xs none.1)))
+
+pub closed_there : (ts : List Thread) (xs : List Group) (i g : ℕ) (x : Group) (places : List ℕ) → x ≡ get_or xs i x → IsGroupPlace g xs (Some i) → ((n : ℕ) → occurs n (tgids_of xs) ≤ 1)
+    → (is_stopping x.group_stop && not (has_mark ts x.tgid)) ≡ false → (not (tells ts x) || not (occurs i places == 0)) ≡ true → is_open ts xs (is_listed xs places) g ≡ false
+closed_there ts xs i g x places at there once stop listed = or_from _ _
+    (ap (λ o. is_stopping (stop_of o) && not (has_mark ts g)) (there.2 ∙ (slice_get-get_or xs i x there.0 ∙ ap Some (sym at))) ∙ (ap (λ n. is_stopping x.group_stop && not (has_mark ts n)) (sym own) ∙ stop))
+    (ap (λ b. b && not (is_listed xs places g)) told ∙ relisted_own xs i g places (tells ts x) there once listed)
+  where
+    own : x.tgid ≡ g
+    own = ap (λ (y : Group). y.tgid) at ∙ there.3 x
+
+    alone : (b : Bool) → (b || false) ≡ b
+    alone true = refl
+    alone false = refl
+
+    told : tells_of ts xs g ≡ tells ts x
+    told = ap (list_any (tells ts)) (sym (with_id_there g xs i x there.0 (there.3 x) (once g))) ∙ (ap (λ (y : Group). tells ts y || false) (sym at) ∙ alone (tells ts x))
 
 -- nothing but the listing of one group has changed
 

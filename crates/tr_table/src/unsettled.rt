@@ -1,12 +1,12 @@
 ghost use Rattle.std.specs.Prelude.{◌≡◌, ℕ, ◌<◌, ◌≤◌, ◌==◌, ◌&&◌, ◌||◌, false, is_some, length, not, true};
 ghost use Rattle.std.specs.List.{list_any};
+ghost use Rattle.tr_group.specs.GroupStops.{is_stopping};
 ghost use Rattle.tr_model.specs.Journals.{occurs};
 ghost use Rattle.tr_model.specs.Tables.{has_traced, ids_of};
 ghost use Rattle.tr_table.specs.declared.unsettled.Unsettled.TheVariants.{Nowhere};
-ghost use Rattle.tr_table.specs.Settled.{NoStopBut, NoneBut, can_complete, is_listed, is_open_row, leader_died, tells, tells_of, touched};
+ghost use Rattle.tr_table.specs.Settled.{NoStopBut, NoneBut, has_mark, is_listed, is_open, is_open_row, leader_died, tells, touched};
 
 use crate::group_list::Groups;
-use crate::groups::stop_in;
 use crate::table::Table;
 use tr_index::Multiset;
 use tr_model::Group;
@@ -75,11 +75,11 @@ fn tells(threads: &Threads, group: &Group) -> bool
     group.note.is_some() && !threads.has_traced(group.tgid) || leader_died(threads, group.tgid)
 }
 
-fn some_tells(threads: &Threads, groups: &[Group]) -> bool
-    requires { (n : ℕ) → occurs n (ids_of threads.now) ≤ 1 }
-    ensures { result ≡ list_any (tells threads.now) groups.now }
+/// Whether a group's stop can be complete: it is under way, and no thread of it has a stop mark.
+fn stop_completes(threads: &Threads, group: &Group) -> bool
+    ensures { result ≡ (is_stopping group.now.group_stop && not (has_mark threads.now group.now.tgid)) }
 {
-    groups.iter().any(|g| tells(threads, g))
+    group.group_stop.is_stopping() && !threads.has_stop_mark(group.tgid)
 }
 
 /// Whether a group can be complete, or has something to tell and isn't listed.
@@ -87,8 +87,7 @@ fn is_open(threads: &Threads, group: &Group, listed: bool) -> bool
     requires { (n : ℕ) → occurs n (ids_of threads.now) ≤ 1 }
     ensures { result ≡ is_open_row threads.now listed group.now }
 {
-    group.group_stop.is_stopping() && !threads.has_stop_mark(group.tgid)
-        || tells(threads, group) && !listed
+    stop_completes(threads, group) || tells(threads, group) && !listed
 }
 
 /// Whether no group is open, where those at these places are listed.
@@ -139,23 +138,23 @@ fn relist(places: &mut Multiset, place: u32, tells: bool) -> bool
     !tells || places.contains(place)
 }
 
-/// The same for the place of the group with the id.
-fn relist_group(places: &mut Multiset, groups: &Groups, tgid: u32, tells: bool) -> bool
-    requires { length groups.now ≤ 1024 }
+/// Lists the place of the group with the id, or lists it no more. Says that the group isn't open: its stop can't be
+/// complete, and it is listed where it has something to tell.
+fn relist_group(places: &mut Multiset, threads: &Threads, groups: &Groups, tgid: u32) -> bool
+    requires once { (n : ℕ) → occurs n (ids_of threads.now) ≤ 1 }
+    requires few { length groups.now ≤ 1024 }
     ensures others { (n : ℕ)
         → (tgid ≡ n → ⊥)
         → is_listed groups.now places.new.numbers n ≡ is_listed groups.now places.old.numbers n }
     ensures own { result ≡ true
-        → (tells && not (is_listed groups.now places.new.numbers tgid)) ≡ false }
+        → is_open threads.now groups.now (is_listed groups.now places.new.numbers) tgid ≡ false }
 {
-    // Mostly no group has anything to tell.
-    if !tells && places.is_empty() {
+    let Some(place) = groups.place(tgid) else {
         return true;
-    }
-    match groups.place(tgid) {
-        Some(place) => relist(places, place as u32, tells),
-        None => !tells,
-    }
+    };
+    let group = &groups.as_slice()[place];
+    let completes = stop_completes(threads, group);
+    relist(places, place as u32, tells(threads, group)) && !completes
 }
 
 impl Table {
@@ -179,21 +178,6 @@ impl Table {
             Unsettled::Nowhere => !self.telling.is_empty(),
             _ => self.groups.has_notes(),
         }
-    }
-
-    fn can_complete(&self, tgid: u32) -> bool
-        ensures { result ≡ can_complete self.now.table.threads self.now.table.groups tgid }
-    {
-        stop_in(&self.groups, tgid).is_stopping() && !self.threads.has_stop_mark(tgid)
-    }
-
-    fn tells_of(&self, tgid: u32) -> bool
-        ensures { result ≡ tells_of self.now.table.threads self.now.table.groups tgid }
-    {
-        if !self.groups.has_notes() && !self.threads.has_untraced_deaths() {
-            return false;
-        }
-        some_tells(&self.threads, self.groups.with_id(tgid))
     }
 
     /// Looks at the groups that something happened to, so that none of them has to be looked at again but those whose
@@ -223,9 +207,7 @@ impl Table {
         match self.unsettled {
             Unsettled::Nowhere => {}
             Unsettled::In(tgid) => {
-                let completes = self.can_complete(tgid);
-                let tells = self.tells_of(tgid);
-                if relist_group(&mut self.telling, &self.groups, tgid, tells) && !completes {
+                if relist_group(&mut self.telling, &self.threads, &self.groups, tgid) {
                     self.unsettled = Unsettled::Nowhere;
                 }
             }
