@@ -17,3 +17,8 @@ const BLOCKED: &str =
 fn same<T: PartialEq + Debug>(rt: &impl Abort, value: &T, want: &T) {
     assert_eq!(rt; *value, *want);
 }
+
+/// That a value is the one that is wanted of something.
+fn same_of<T: PartialEq + Debug, O: Debug>(rt: &impl Abort, value: &T, want: &T, of: &O) {
+    assert_eq!(rt; *value, *want, "of {of:?}");
+}

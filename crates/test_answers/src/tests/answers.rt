@@ -9,7 +9,7 @@ fn is_answered(rt: &impl Abort, answered: &Answered, event: Event, times: u32, w
     same(rt, &answered.step.event, &event);
     same(rt, &answered.step.times, &times);
     let text = answered.answer.as_ref().map(|answer| answer.as_str());
-    assert_eq!(rt; text, want);
+    same(rt, &text, &want);
 }
 
 #[test]

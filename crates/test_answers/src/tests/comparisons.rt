@@ -1,5 +1,5 @@
-use super::BLOCKED;
 use super::devices::{blank_tape, compare_to};
+use super::{BLOCKED, same};
 use std::process::Abort;
 use std::test::Fail;
 use tr_reading::ScenarioFault;
@@ -20,8 +20,8 @@ fn record_of(rt: &impl AllocGlobal, entries: u32, steps: &str) -> Result<String,
 fn is_compared<R: Abort + AllocGlobal>(rt: &R, record: &str, want: &str) {
     let mut tape = blank_tape(rt, 1000, 1000);
     let agrees = compare_to(rt, record, 10000, &mut tape);
-    assert_eq!(rt; tape.bytes.as_slice(), want.as_bytes());
-    assert_eq!(rt; agrees, Ok(!want.contains("admitted")));
+    same(rt, &tape.bytes.as_slice(), &want.as_bytes());
+    same(rt, &agrees, &Ok(!want.contains("admitted")));
 }
 
 /// The same, of a record of these steps.
@@ -277,13 +277,13 @@ fn a_writer_that_breaks_took_a_front(rt: HostRuntime) -> Result<(), Fail> {
         let mut tape = blank_tape(&rt, 5, writes);
         let agrees = compare_to(&rt, &record, 10000, &mut tape);
         let front = whole.len().min(writes * 5);
-        assert_eq!(rt; tape.bytes.as_slice(), &whole[..front]);
+        same(&rt, &tape.bytes.as_slice(), &&whole[..front]);
         let want = if front == whole.len() {
             Ok(false)
         } else {
             Err(ScenarioFault::WriteFault)
         };
-        assert_eq!(rt; agrees, want);
+        same(&rt, &agrees, &want);
     }
     Ok(())
 }
@@ -293,14 +293,14 @@ fn nothing_is_written_after_a_reader_breaks(rt: HostRuntime) {
     for reads in 0..20 {
         let mut tape = blank_tape(&rt, 1000, 1000);
         let agrees = compare_to(&rt, BLOCKED, reads, &mut tape);
-        assert_eq!(rt; agrees, Err(ScenarioFault::ReadFault));
+        same(&rt, &agrees, &Err(ScenarioFault::ReadFault));
         assert!(rt; tape.bytes.is_empty());
     }
 }
 
 fn is_refused<R: Abort + AllocGlobal>(rt: &R, record: &str, want: ScenarioFault) {
     let mut tape = blank_tape(rt, 1000, 1000);
-    assert_eq!(rt; compare_to(rt, record, 10000, &mut tape), Err(want));
+    same(rt, &compare_to(rt, record, 10000, &mut tape), &Err(want));
     assert!(rt; tape.bytes.is_empty());
 }
 
@@ -326,13 +326,13 @@ fn many_lines_come_in_order(rt: HostRuntime) -> Result<(), Fail> {
         r#"{"actor":900,"do":"kill","tgid":10,"sig":10,"times":4000,"answer":"sent _ _"}"#,
     )?;
     let mut tape = blank_tape(&rt, 1000, 1000);
-    assert_eq!(rt; compare_to(&rt, &record, 10000, &mut tape), Ok(true));
+    same(&rt, &compare_to(&rt, &record, 10000, &mut tape), &Ok(true));
     let mut rest = tape.bytes.as_slice();
     for n in 1..4001u32 {
         let fate = if n == 1 { "pending" } else { "merged" };
         let line = format!(in rt.alloc(); "step 1: `900 kill`: assumed `sent {n} {fate}`\n")?;
         rest = rest.strip_prefix(line.as_bytes()).ok_or("a line")?;
     }
-    assert_eq!(rt; rest, b"agrees: 4000 answers\n".as_slice());
+    same(&rt, &rest, &b"agrees: 4000 answers\n".as_slice());
     Ok(())
 }

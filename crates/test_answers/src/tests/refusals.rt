@@ -1,4 +1,4 @@
-use super::BLOCKED;
+use super::{BLOCKED, same, same_of};
 use std::process::Abort;
 use std::test::Fail;
 use tr_answers::read;
@@ -22,7 +22,7 @@ fn are_read_so<R: Abort + AllocGlobal>(
     for line in cases.lines() {
         let (want, part) = line.split_once(' ').ok_or("a case")?;
         let text = format!(in rt.alloc(); "{before}{part}{after}")?;
-        assert_eq!(rt; told_of(rt, &text)?.as_str(), want, "{text}");
+        same_of(rt, &told_of(rt, &text)?.as_str(), &want, &text);
     }
     Ok(())
 }
@@ -72,7 +72,7 @@ fn faults_of_steps(rt: HostRuntime) -> Result<(), Fail> {
 #[test]
 fn a_scenario_has_no_answers(rt: HostRuntime) {
     let fault = tr_reading::read(rt.alloc(), BLOCKED.as_bytes()).err();
-    assert_eq!(rt; fault, Some(ScenarioFault::BadField));
+    same(&rt, &fault, &Some(ScenarioFault::BadField));
 }
 
 /// A record of so many steps, which have no answers.
@@ -88,10 +88,15 @@ fn many_steps(rt: &impl AllocGlobal, count: u32) -> Result<String, Fail> {
 
 #[test]
 fn the_most_steps(rt: HostRuntime) -> Result<(), Fail> {
-    assert_eq!(rt; told_of(&rt, &many_steps(&rt, 10000)?)?.as_str(), "none");
-    assert_eq!(rt;
-        told_of(&rt, &many_steps(&rt, 10001)?)?.as_str(),
-        "TooLarge"
+    same(
+        &rt,
+        &told_of(&rt, &many_steps(&rt, 10000)?)?.as_str(),
+        &"none",
+    );
+    same(
+        &rt,
+        &told_of(&rt, &many_steps(&rt, 10001)?)?.as_str(),
+        &"TooLarge",
     );
     Ok(())
 }
@@ -102,8 +107,8 @@ fn the_most_bytes(rt: HostRuntime) -> Result<(), Fail> {
     for _ in text.len()..1048576 {
         text.push(' ')?;
     }
-    assert_eq!(rt; told_of(&rt, &text)?.as_str(), "none");
+    same(&rt, &told_of(&rt, &text)?.as_str(), &"none");
     text.push(' ')?;
-    assert_eq!(rt; told_of(&rt, &text)?.as_str(), "TooLarge");
+    same(&rt, &told_of(&rt, &text)?.as_str(), &"TooLarge");
     Ok(())
 }

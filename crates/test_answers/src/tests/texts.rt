@@ -1,3 +1,4 @@
+use super::{same, same_of};
 use std::process::Abort;
 use std::test::Fail;
 use tr_answers::Expected;
@@ -37,7 +38,7 @@ fn fits_word_by_word(rt: HostRuntime) -> Result<(), Fail> {
         let (expected, rest) = line.split_once('|').ok_or("a case")?;
         let (text, want) = rest.split_once('|').ok_or("a case")?;
         let fits = Expected::new(rt.alloc(), expected)?.fits_text(text.as_bytes());
-        assert_eq!(rt; fits, want == "yes", "{line}");
+        same_of(&rt, &fits, &(want == "yes"), &line);
     }
     Ok(())
 }
@@ -64,10 +65,10 @@ fn named_id(rt: &impl AllocGlobal, text: &str) -> Result<Option<u32>, Fail> {
 #[test]
 fn names_a_new_thread(rt: HostRuntime) -> Result<(), Fail> {
     for text in ["cloned 11", "_ 11", " 11", "Cloned 11"] {
-        assert_eq!(rt; named_id(&rt, text)?, Some(11), "{text}");
+        same_of(&rt, &named_id(&rt, text)?, &Some(11), &text);
     }
-    assert_eq!(rt; named_id(&rt, "cloned 0")?, Some(0));
-    assert_eq!(rt; named_id(&rt, "cloned 4294967295")?, Some(4294967295));
+    same(&rt, &named_id(&rt, "cloned 0")?, &Some(0));
+    same(&rt, &named_id(&rt, "cloned 4294967295")?, &Some(4294967295));
     Ok(())
 }
 
@@ -94,7 +95,7 @@ _ _";
 #[test]
 fn names_no_thread(rt: HostRuntime) -> Result<(), Fail> {
     for text in NO_IDS.lines() {
-        assert_eq!(rt; named_id(&rt, text)?, None, "{text}");
+        same_of(&rt, &named_id(&rt, text)?, &None, &text);
     }
     Ok(())
 }
@@ -107,7 +108,7 @@ fn is_fit<R: Abort + AllocGlobal>(
     want: bool,
 ) -> Result<(), Fail> {
     let expected = Expected::new(rt.alloc(), text)?;
-    assert_eq!(rt; expected.fits(answer)?, want, "{text}");
+    same_of(rt, &expected.fits(answer)?, &want, &text);
     Ok(())
 }
 

@@ -37,7 +37,7 @@ fn what_never_comes_ends_by_turns(rt: HostRuntime) -> Result<(), Fail> {
     )?;
     for turns in [1, 2, 50] {
         let bytes = printed(&rt, NEVER, turns)?;
-        assert_eq!(rt; bytes.as_slice(), want.as_bytes());
+        same(&rt, &bytes.as_slice(), &want.as_bytes());
     }
     Ok(())
 }
@@ -74,6 +74,6 @@ fn the_most_workers_run(rt: HostRuntime) -> Result<(), Fail> {
         "worker 64 entries 0 accepted 0 refused 1 end\n\ntotals accepted 0 pending 0 merged 0 delivered 0 suppressed 0 flushed 0\nsettled\n",
     )?;
     let bytes = printed(&rt, &text, 1000)?;
-    assert_eq!(rt; bytes.as_slice(), want.as_bytes());
+    same(&rt, &bytes.as_slice(), &want.as_bytes());
     Ok(())
 }
