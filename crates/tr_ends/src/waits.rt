@@ -73,6 +73,7 @@ pub fn check_wait(table: &Table, actor: u32, which: Which) -> Result<Checked, Re
 }
 
 /// What a wait that gives a report of this thread or group tells.
+#[inline(always)]
 fn waited(id: u32, report: &Option<Report>) -> Reply
     ensures { result ≡ waited id report.now }
 {

@@ -367,7 +367,7 @@ impl Notes {
     }
 
     /// Notes an entry that may be something to the laws: mostly a take or a stop, by its fact alone.
-    #[inline(never)]
+    #[inline(always)]
     fn note_made(&mut self, fact: FactBefore, step: &Step, reply: Reply)
         requires room { 0 < self.old.room }
         requires dying { length step.now.work.dying ≤ self.old.room }
@@ -410,6 +410,23 @@ impl Notes {
             self.room = room_left(&self.list, self.room);
             return;
         }
+        self.note_whole(fact, step);
+    }
+
+    /// Notes an entry with more to note than its fact, or with a fact that is too long to stand alone. Few are.
+    #[cold]
+    #[inline(never)]
+    fn note_whole(&mut self, fact: EntryFact, step: &Step)
+        requires room { 0 < self.old.room }
+        requires dying { length step.now.work.dying ≤ self.old.room }
+        requires few_notes { length self.old.notes < 2 ^ 32 }
+        requires few { (n : ℕ) → times n self.old.transfers < 2 ^ 32 }
+        requires one { length step.now.work.renamed ≤ 1 }
+        ensures notes { self.new.notes
+            ≡ self.old.notes ++ note_with fact (length self.old.dying) step.now.work ∷ [] }
+        ensures dying { self.new.dying ≡ self.old.dying ++ step.now.work.dying }
+        ensures transfers { AreTransferred step.now.work.renamed self.old.transfers self.new.transfers }
+    {
         self.room = 0;
         append_all(&mut self.dying, step.news().dying());
         count_first_transfer(&mut self.transfers, step.news().renamed());
