@@ -23,7 +23,7 @@ pub(crate) fn place_of(slots: &[Slot], n: u64) -> Option<usize>
         (λ i. (s : Slot) → (get_or slots.now i s).waiting.instance.n ≡ n) }
     ensures none { IfNone result (waiting_in (all_in slots.now) n ≡ None) }
 {
-    if let Some(place) = place_in_row(slots, n) {
+    if let Some(place) = likely_place(slots, n) {
         return Some(place);
     }
     slots
@@ -31,9 +31,9 @@ pub(crate) fn place_of(slots: &[Slot], n: u64) -> Option<usize>
         .ok()
 }
 
-/// The same, where the numbers from the first on stand without a gap; else mostly none.
+/// The same, where the numbers from the first on stand without a gap, or where it is the last; else mostly none.
 #[inline(always)]
-fn place_in_row(slots: &[Slot], n: u64) -> Option<usize>
+fn likely_place(slots: &[Slot], n: u64) -> Option<usize>
     ensures within { IfSome result (λ i. i < length slots.now) }
     ensures found { IfSome result
         (λ i. (s : Slot) → (get_or slots.now i s).waiting.instance.n ≡ n) }
@@ -41,7 +41,11 @@ fn place_in_row(slots: &[Slot], n: u64) -> Option<usize>
     let first = slots.first()?.waiting.instance.n;
     let place = n.checked_sub(first)? as usize;
     if place < slots.len() && slots[place].waiting.instance.n == n {
-        Some(place)
+        return Some(place);
+    }
+    let last = slots.len() - 1;
+    if slots[last].waiting.instance.n == n {
+        Some(last)
     } else {
         None
     }
