@@ -77,7 +77,8 @@ fn tells(threads: &Threads, group: &Group) -> bool
 
 /// Whether a group's stop can be complete: it is under way, and no thread of it has a stop mark.
 fn stop_completes(threads: &Threads, group: &Group) -> bool
-    ensures { result ≡ (is_stopping group.now.group_stop && not (has_mark threads.now group.now.tgid)) }
+    ensures { result
+        ≡ (is_stopping group.now.group_stop && not (has_mark threads.now group.now.tgid)) }
 {
     group.group_stop.is_stopping() && !threads.has_stop_mark(group.tgid)
 }
