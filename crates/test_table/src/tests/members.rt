@@ -130,12 +130,19 @@ fn a_cont_is_noted_at_a_signal_delivery_stop(rt: HostRuntime) -> Result<(), Fail
     Ok(())
 }
 
-/// Each thread of group 100 leaves with its group.
+/// What each thread of group 100 held is given, as it leaves.
 #[tactic(auto, using(tr_table::proofs::Helds::few_of_all))]
-fn die(table: &mut Table, kill: bool, end: End, alloc: Global) -> Result<Vec<Ending>, Fail> {
+fn leave(table: &mut Table, change: &ThreadChange, alloc: Global) -> Result<Vec<Ending>, Fail> {
     let mut ended = Vec::with_capacity(alloc, table.thread_count())?;
-    table.change_and_flush(100, &ThreadChange::BeginToLeave(kill, end), &mut ended);
+    table.change_and_flush(100, change, &mut ended);
     Ok(ended)
+}
+
+fn lives(rt: &impl Abort, table: &Table, want: &[(u32, Life)]) -> Result<(), Fail> {
+    for (id, life) in want {
+        same(rt, &thread(table, *id)?.life, life);
+    }
+    Ok(())
 }
 
 /// Each begins to leave, with an exit stop before it where its tracer asks for that and KILL didn't do it; what the
@@ -153,20 +160,64 @@ fn a_group_dies(rt: HostRuntime) -> Result<(), Fail> {
         ];
         let mut table = with_threads(rt.alloc(), &threads)?;
         let end = End::Exited(3);
-        let ended = die(&mut table, kill, end, rt.alloc())?;
+        let change = ThreadChange::BeginToLeave(kill, end);
+        let ended = leave(&mut table, &change, rt.alloc())?;
         assert!(rt; are_flushed(&ended, &[7, 5]));
         let stops = Life::Leaving { end, told: kill };
         let ends = Life::Leaving { end, told: true };
         let stays = delivery_stop(8, 10)?;
-        for (id, life) in [
+        let want = [
             (102, stops),
             (201, stays),
             (103, stops),
             (104, ends),
             (105, dead),
-        ] {
-            same(&rt, &thread(&table, id)?.life, &life);
-        }
+        ];
+        lives(&rt, &table, &want)?;
     }
     Ok(())
+}
+
+/// After an execve(2) of thread 101 each other thread of its group begins to leave, one that leaves already with its own
+/// end; what their stops held is flushed, in table order.
+#[test]
+fn an_exec_ends_the_others(rt: HostRuntime) -> Result<(), Fail> {
+    let dead = Life::Dead(End::Exited(1));
+    let own = End::Exited(2);
+    let threads = [
+        seized(102, 100, delivery_stop(7, 10)?, true),
+        seized(201, 200, delivery_stop(8, 10)?, true),
+        seized(
+            103,
+            100,
+            Life::Leaving {
+                end: own,
+                told: false,
+            },
+            false,
+        ),
+        seized(104, 100, delivery_stop(5, 12)?, false),
+        with_life(105, 100, dead),
+    ];
+    let mut table = with_threads(rt.alloc(), &threads)?;
+    let end = End::Exited(0);
+    let change = ThreadChange::LeaveForExec(101, end);
+    let ended = leave(&mut table, &change, rt.alloc())?;
+    assert!(rt; are_flushed(&ended, &[7, 5]));
+    let want = [
+        (100, Life::Leaving { end, told: true }),
+        (101, Life::Free),
+        (102, Life::Leaving { end, told: false }),
+        (201, delivery_stop(8, 10)?),
+        (
+            103,
+            Life::Leaving {
+                end: own,
+                told: true,
+            },
+        ),
+        (104, Life::Leaving { end, told: true }),
+        (105, dead),
+    ];
+    lives(&rt, &table, &want)
 }

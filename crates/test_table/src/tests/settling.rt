@@ -6,9 +6,9 @@ use tr_wait::Status;
 
 // That a table tells no more groups than it has to: a clause says only that it tells no fewer.
 
-/// The group that is told, 0 where none is, and 1 where any may be.
-fn told(table: &Table) -> u32 {
-    match table.unsettled() {
+/// The group that is meant, 0 where none is, and 1 where any may be.
+fn named(groups: Unsettled) -> u32 {
+    match groups {
         Unsettled::Nowhere => 0,
         Unsettled::In(tgid) => tgid,
         Unsettled::Anywhere => 1,
@@ -16,7 +16,14 @@ fn told(table: &Table) -> u32 {
 }
 
 fn tells(rt: &impl Abort, table: &Table, want: u32) {
-    same(rt, &told(table), &want);
+    same(rt, &named(table.unsettled()), &want);
+}
+
+/// Settles the table, which gives the group whose stop may be complete, and no other is told from then on.
+fn settles(rt: &impl Abort, table: &mut Table, want: u32) {
+    let given = named(table.settle());
+    same(rt, &given, &want);
+    tells(rt, table, want);
 }
 
 fn begin_stop(table: &mut Table, tgid: u32) -> Result<(), Fail> {
@@ -28,12 +35,10 @@ fn begin_stop(table: &mut Table, tgid: u32) -> Result<(), Fail> {
 /// Two groups are stopping, and none can be complete.
 fn two_stopping(rt: &impl Abort, table: &mut Table) -> Result<(), Fail> {
     begin_stop(table, 3000)?;
-    table.settle();
-    tells(rt, table, 0);
+    settles(rt, table, 0);
     begin_stop(table, 7000)?;
     tells(rt, table, 7000);
-    table.settle();
-    tells(rt, table, 0);
+    settles(rt, table, 0);
     Ok(())
 }
 
@@ -43,11 +48,9 @@ fn the_group_of_a_change_is_told_alone(rt: HostRuntime) -> Result<(), Fail> {
     tells(&rt, &table, 0);
     two_stopping(&rt, &mut table)?;
     table.change_thread(7000, &ThreadChange::Join);
-    table.settle();
-    tells(&rt, &table, 7000);
+    settles(&rt, &mut table, 7000);
     table.change_group(7000, &GroupChange::Complete);
-    table.settle();
-    tells(&rt, &table, 0);
+    settles(&rt, &mut table, 0);
     Ok(())
 }
 
@@ -57,8 +60,7 @@ fn any_group_is_told_until_all_are_looked_at(rt: HostRuntime) -> Result<(), Fail
     begin_stop(&mut table, 3000)?;
     begin_stop(&mut table, 7000)?;
     tells(&rt, &table, 1);
-    table.settle();
-    tells(&rt, &table, 0);
+    settles(&rt, &mut table, 0);
     Ok(())
 }
 
@@ -73,7 +75,7 @@ pub(super) fn settled_note(table: &mut Table, tgid: u32) -> Result<(), Fail> {
 }
 
 fn shows(rt: &impl Abort, table: &mut Table, want: bool) {
-    table.settle();
+    settles(rt, table, 0);
     same(rt, &table.may_show_notes(), &want);
 }
 
