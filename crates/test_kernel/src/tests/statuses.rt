@@ -1,14 +1,16 @@
 ghost use Rattle.std.specs.Prelude.{◌≡◌};
 
-use super::same;
+use super::{expect_answer, same, sent};
 use std::alloc::{AllocError, Global};
+use std::process::Abort;
 use std::test::Fail;
 use tr_group::Action;
-use tr_model::Target;
+use tr_kernel::Kernel;
+use tr_model::{Event, Fate, Target};
 use tr_pending::Info;
 use tr_sigset::{SigSet, Signal};
 use tr_starts::{GroupStart, Items, Start};
-use tr_status::{Sink, StatusFault, write_status_of};
+use tr_status::{Sink, StatusFault, write_status, write_status_of};
 use tr_table::Table;
 use tr_threads::ThreadChange;
 
@@ -112,6 +114,32 @@ fn a_status_has_thirteen_lines(rt: HostRuntime) -> Result<(), Fail> {
     assert!(rt; write_status_of(&table, 10, &mut page).is_ok());
     same(&rt, &page.bytes.as_slice(), &TEXT);
     same(&rt, &page.failures, &0);
+    Ok(())
+}
+
+/// Sends what waits in `table`.
+fn send_both(rt: &impl Abort, kernel: &mut Kernel) {
+    let kill = Event::Kill { tgid: 10, sig: 10 };
+    expect_answer(rt, kernel, 900, &kill, &sent(1, Fate::Pending));
+    let tgkill = Event::Tgkill {
+        tgid: 10,
+        tid: 10,
+        sig: 34,
+    };
+    expect_answer(rt, kernel, 900, &tgkill, &sent(2, Fate::Pending));
+}
+
+#[test]
+fn a_thread_of_a_kernel_has_its_status(rt: HostRuntime) -> Result<(), Fail> {
+    let start = demo(rt.alloc(), signal(1)?, signal(34)?)?;
+    let mut kernel = super::opened(&rt, start)?;
+    send_both(&rt, &mut kernel);
+    let mut page = empty_page(rt.alloc(), 1000, 1);
+    same(&rt, &write_status(&kernel, 10, &mut page), &Ok(()));
+    same(&rt, &page.bytes.as_slice(), &TEXT);
+    let absent = write_status(&kernel, 12, &mut page);
+    same(&rt, &absent, &Err(StatusFault::Srch));
+    same(&rt, &page.bytes.as_slice(), &TEXT);
     Ok(())
 }
 
