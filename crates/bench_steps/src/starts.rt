@@ -1,3 +1,4 @@
+use crate::mixes::Acting;
 use std::alloc::{AllocError, Global};
 use std::io;
 use tr_group::Action;
@@ -14,6 +15,23 @@ pub const FIRST: u32 = 10;
 pub struct Shape {
     pub groups: u32,
     pub threads: u32,
+}
+
+impl Shape {
+    /// How many threads there are in all.
+    pub fn count(self) -> u32 {
+        self.groups.wrapping_mul(self.threads)
+    }
+
+    /// The last group.
+    pub fn last(self) -> Acting {
+        let end = FIRST.wrapping_add(self.count());
+        Acting {
+            tgid: end.wrapping_sub(self.threads),
+            members: self.threads,
+            tid: end.wrapping_sub(1),
+        }
+    }
 }
 
 /// A group that catches these signals, of threads with the ids from its own on.
@@ -50,7 +68,7 @@ fn start(alloc: Global, caught: [Signal; 2], shape: Shape) -> Result<Start, Allo
     }
     Ok(Start {
         groups,
-        limit: 10_000,
+        limit: 20_000,
         entries: u32::MAX,
     })
 }

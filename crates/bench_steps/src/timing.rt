@@ -4,20 +4,16 @@ use std::io;
 use std::rt::Clock;
 use std::time::Instant;
 
-/// How many steps one round makes.
-pub const STEPS: u64 = 4_000_000;
-
-/// How many steps a round makes whose journal stays in the processor's cache.
-pub const FEW: u64 = 1 << 12;
-
 /// How many steps are timed in all; of their rounds the quickest counts.
-const TIMED: u64 = 3 * STEPS;
+const TIMED: u32 = 12_000_000;
 
-/// The time of a step, how many million steps a second that is, and how many of one round's were answered.
+/// How many rounds there are at the most.
+const ROUNDS: u32 = 300;
+
+/// The time of a step, and how many of one round's were answered.
 #[derive(Clone, Copy)]
 pub struct Timing {
     pub nanoseconds: f64,
-    pub rate: f64,
     pub answered: u64,
 }
 
@@ -34,17 +30,15 @@ pub fn timed<S: Drop, N: Fn() -> io::Result<S>, R: Fn(&mut S) -> u64>(
 {
     let mut quickest = f64::MAX;
     let mut answered: u64 = 0;
-    for _ in 0..TIMED / u64::from(count) {
+    for _ in 0..(TIMED / count).min(ROUNDS) {
         let mut made = new()?;
         let start = Instant::now(rt)?;
         answered = steps(&mut made);
         let seconds = start.elapsed(rt)?.as_secs_f64();
         quickest = quickest.min(seconds);
     }
-    let nanoseconds = quickest * 1e9 / f64::from(count);
     Ok(Timing {
-        nanoseconds,
-        rate: 1e3 / nanoseconds,
+        nanoseconds: quickest * 1e9 / f64::from(count),
         answered,
     })
 }
