@@ -21,6 +21,7 @@ use tr_table::Table;
 use tr_tracee::Thread;
 
 /// The first thread of the group, in table order, that can take something, by these words of its rows.
+#[inline(always)]
 fn first_taker<'a>(
     table: &'a Table,
     tgid: u32,
@@ -51,6 +52,7 @@ fn taker_by_rows(table: &Table, tgid: u32) -> Option<Option<&Thread>>
 }
 
 /// The same, by as few words as do.
+#[inline(never)]
 fn taker_in(table: &Table, tgid: u32) -> Option<Option<&Thread>>
     ensures there { is_some result ≡ is_some (group_of table.now.table tgid) }
     ensures taker { IfSome result
