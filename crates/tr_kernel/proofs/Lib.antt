@@ -12,7 +12,7 @@ pub mod Noted
 pub mod Noticed
 pub mod Noting
 pub mod Ordered
-pub mod Overlaid
+pub mod Joined
 pub mod Positions
 pub mod Refusals
 pub mod Restarted

@@ -1,21 +1,20 @@
 -- What private contracts see of what a kernel keeps beside its table: what is written down, and for how much more there is
 -- room.
-use Rattle.std.specs.Prelude.{◌≡◌, ℕ, ◌+◌, ◌^◌, ◌<◌, ◌≤◌, ◌==◌, nat_le, zero, suc, false, ◌&&◌, List, [], ◌∷◌, length, get_or, slice_get, Option, Some, None, if◌then◌else◌}
+use Rattle.std.specs.Prelude.{◌≡◌, ℕ, ◌+◌, ◌^◌, ◌<◌, ◌≤◌, ◌==◌, nat_le, zero, suc, false, ◌&&◌, List, [], ◌∷◌, length, get_or, slice_get, Bool, true, Option, Some, None, if◌then◌else◌}
+use Rattle.tr_pending.specs.declared.instance.Info.{Info}
 use Rattle.tr_model.specs.Choices.{Choice}
 use Rattle.tr_model.specs.Entries.{Entry}
 use Rattle.tr_model.specs.declared.events.Event.{Event}
 use Rattle.tr_model.specs.declared.events.Event.TheVariants as event
 use Rattle.tr_model.specs.declared.fates.Fate.{Fate}
 use Rattle.tr_model.specs.declared.fates.Fate.TheVariants as fate
+use Rattle.tr_model.specs.declared.replies.Did.{Did}
 use Rattle.tr_model.specs.declared.replies.Reply.{Reply}
 use Rattle.tr_model.specs.declared.replies.Reply.TheVariants as reply
 use Rattle.tr_model.specs.declared.rows.Target.{Target}
 use Rattle.tr_model.specs.declared.rows.Target.TheVariants as target
 use Rattle.tr_model.specs.Packed.{word_of}
 use Rattle.tr_model.specs.Steps.{number}
-use Rattle.tr_kernel.specs.declared.note_list.FactKind.{FactKind}
-use Rattle.tr_kernel.specs.declared.note_list.FactKind.TheVariants as short
-use Rattle.tr_kernel.specs.declared.note_list.KeptFact.{KeptFact}
 use Rattle.tr_kernel.specs.declared.note_list.KeptNote.{KeptNote}
 use Rattle.tr_kernel.specs.declared.note_list.Kind.{Kind}
 use Rattle.tr_kernel.specs.declared.note_list.Kind.TheVariants as kind
@@ -37,10 +36,11 @@ pub record FateList : Type 0 where
 
 -- Entries with their replies
 
--- the entries, and the reply of each
+-- the entries, and the reply and the note of each
 pub record EntryList : Type 0 where
   pub entries : List Entry
   pub replies : List Reply
+  pub notes : List Note
   pub room : ℕ
 
 -- the thread of a take: the event names it, or its choice
@@ -55,12 +55,19 @@ taker e = taker_of e.event e.choice
 abbrev pub signal_of : ℕ → ℕ
 signal_of n = if nat_le 1 n && nat_le n 64 then n else 9
 
+-- the reply of a take by an entry
+abbrev pub told_take : Entry → Did → ℕ → Info → Reply
+told_take e did sig info = reply.Took did (taker e) (record { n = number e.choice.instance; sig = signal_of sig; info = info })
+
 -- the reply of an entry, of which this is kept whole
 abbrev pub told_whole : Entry → WholeReply → Reply
 told_whole e (whole.Sent fate low high) = reply.Sent fate (word_of (record { low = low; high = high }))
-told_whole e (whole.Took did sig info) = reply.Took did (taker e) (record { n = number e.choice.instance; sig = signal_of sig; info = info })
+told_whole e (whole.Took did sig info) = told_take e did sig info
+told_whole e (whole.TookFromThread did sig code pid value id) = told_take e did sig (record { code = code; pid = pid; value = value })
+told_whole e (whole.TookFromGroup did sig code pid value g) = told_take e did sig (record { code = code; pid = pid; value = value })
 told_whole e (whole.Cloned id) = reply.Cloned id
 told_whole e (whole.Waited id word) = reply.Waited id word (number e.choice.report)
+told_whole e (whole.WaitedForStop id word g) = reply.Waited id word (number e.choice.report)
 told_whole e (whole.Message value) = reply.Message value
 told_whole e (whole.Signal sig info) = reply.Signal (signal_of sig) info
 
@@ -78,6 +85,27 @@ told e m ws (brief.Pending more) = reply.Sent fate.Pending (m.sent + more)
 told e m ws (brief.Merged more) = reply.Sent fate.Merged (m.sent + more)
 told e m ws (brief.Flushed more) = reply.Sent fate.Flushed (m.sent + more)
 told e m ws (brief.Whole more) = told_by e (slice_get ws (m.whole + more))
+
+-- what a take by an entry is to the laws, from this queue, before its id passed on
+abbrev pub fact_of_take : Entry → ℕ → Target → EntryFact
+fact_of_take e sig q = Take (record { number = number e.choice.instance; signal = signal_of sig; queue = q; transfers = 0 })
+
+-- what the entry is to the laws, as far as a reply tells that is kept whole
+abbrev pub fact_told_whole : Entry → WholeReply → EntryFact
+fact_told_whole e (whole.TookFromThread did sig code pid value id) = fact_of_take e sig (target.Thread id)
+fact_told_whole e (whole.TookFromGroup did sig code pid value g) = fact_of_take e sig (target.Group g)
+fact_told_whole e (whole.WaitedForStop id word g) = Stop (record { thread = id; group = g })
+fact_told_whole e _ = Nothing
+
+-- as far as the one tells, if there is one
+abbrev pub fact_told_by : Entry → Option WholeReply → EntryFact
+fact_told_by e None = Nothing
+fact_told_by e (Some w) = fact_told_whole e w
+
+-- as far as its reply tells, of which this is kept in brief
+abbrev pub fact_told : Entry → Mark → List WholeReply → BriefReply → EntryFact
+fact_told e m ws (brief.Whole more) = fact_told_by e (slice_get ws (m.whole + more))
+fact_told e m ws _ = Nothing
 
 -- there is what it names: a number, or a reply among those that are kept whole
 abbrev pub IsHeld : Mark → List WholeReply → BriefReply → Type 0
@@ -105,7 +133,7 @@ IsToldBy e _ = Unit {0}
 
 -- Notes
 
--- the note of each entry
+-- of each entry what is left of its note, and for how many more that are kept there is room
 pub record NotesOfEntries : Type 0 where
   pub notes : List Note
   pub room : ℕ
@@ -140,41 +168,26 @@ spread [] deaths place (suc n) = blank deaths ∷ spread [] deaths (suc place) n
 spread (k ∷ ks) deaths place (suc n) =
     if k.place == place then noted k ∷ spread ks k.deaths (suc place) n else blank deaths ∷ spread (k ∷ ks) deaths (suc place) n
 
--- a take from this queue, before its id passed on, of which a fact is kept
-abbrev pub short_take : Target → KeptFact → EntryFact
-short_take q f = Take (record { number = f.second; signal = signal_of f.signal; queue = q; transfers = 0 })
+-- what is left of a note, where the reply of its entry tells what the entry is to the laws
+abbrev pub left_of : Bool → Note → Note
+left_of true n = record n { fact = Nothing }
+left_of false n = n
 
--- what an entry is to the laws, of which a fact is kept
-abbrev pub short_fact_by : FactKind → KeptFact → EntryFact
-short_fact_by short.Stop f = Stop (record { thread = f.id; group = f.second })
-short_fact_by short.TakeForThread f = short_take (target.Thread f.id) f
-short_fact_by short.TakeForGroup f = short_take (target.Group f.id) f
+-- the note with what the reply tells, if it tells that
+abbrev pub with_fact : EntryFact → Note → Note
+with_fact Nothing n = n
+with_fact f n = record n { fact = f }
 
-abbrev pub short_fact : KeptFact → EntryFact
-short_fact f = short_fact_by f.kind f
-
--- the note with the fact that is kept, if one is
-abbrev pub with_fact : Option KeptFact → Note → Note
-with_fact None n = n
-with_fact (Some f) n = record n { fact = short_fact f }
-
--- notes of entries from a place on, each with the fact that is kept of its entry, if one is
-abbrev pub overlaid : List KeptFact → ℕ → List Note → List Note
-overlaid [] place ns = ns
-overlaid (f ∷ fs) place [] = []
-overlaid (f ∷ fs) place (n ∷ ns) =
-    if f.place == place then with_fact (Some f) n ∷ overlaid fs (suc place) ns else n ∷ overlaid (f ∷ fs) (suc place) ns
-
-abbrev pub place_of_note : KeptNote → ℕ
-place_of_note k = k.place
-
-abbrev pub place_of_fact : KeptFact → ℕ
-place_of_fact f = f.place
+-- notes of entries, each with what the reply of its entry tells
+abbrev pub joined : List EntryFact → List Note → List Note
+joined [] ns = ns
+joined (f ∷ fs) [] = []
+joined (f ∷ fs) (n ∷ ns) = with_fact f n ∷ joined fs ns
 
 -- the places ascend, from the first to before the last of these
-abbrev pub AreWithin : {X : Type 0} → (X → ℕ) → ℕ → ℕ → List X → Type 0
-AreWithin place_of from to [] = from ≤ to
-AreWithin place_of from to (x ∷ xs) = (from ≤ place_of x) × (place_of x < to) × AreWithin place_of (suc (place_of x)) to xs
+abbrev pub AreWithin : ℕ → ℕ → List KeptNote → Type 0
+AreWithin from to [] = from ≤ to
+AreWithin from to (k ∷ ks) = (from ≤ k.place) × (k.place < to) × AreWithin (suc k.place) to ks
 
 -- the note of the entry at a place, by those that are kept of the entries up to it
 abbrev pub note_upto : ℕ → ℕ → List KeptNote → Note

@@ -29,6 +29,8 @@ use Rattle.tr_kernel.specs.declared.notes.FactBefore.{FactBefore}
 use Rattle.tr_kernel.specs.declared.notes.FactBefore.TheVariants as before
 use Rattle.tr_kernel.specs.declared.notes.Note.{Note}
 use Rattle.tr_kernel.specs.declared.notes.IdTransfer.{IdTransfer}
+use Rattle.tr_kernel.specs.declared.notes.Noticed.{Noticed}
+use Rattle.tr_kernel.specs.declared.notes.Origin.{Origin}
 use Rattle.tr_kernel.specs.declared.notes.Stopped.{Stopped}
 use Rattle.tr_kernel.specs.declared.notes.TakenFrom.{TakenFrom}
 use Rattle.tr_kernel.specs.Laws.{RestartsAt}
@@ -140,11 +142,29 @@ shown before.Nothing = Nothing
 shown (before.Stop s) = Stop s
 shown (before.Exec g) = Exec g
 
--- its fact after the step, by the queue that it took from and its reply
+-- the queue that it took from, and how often the id of its thread has passed on
+abbrev pub origin_of : List IdTransfer → Option Target → Option Origin
+origin_of ps None = None
+origin_of ps (Some q) = Some (record { queue = q; transfers = transfers_in ps q })
+
+-- its fact after the step, by what it took from and its reply
+abbrev pub fact_with : EntryFact → Option Origin → Reply → EntryFact
+fact_with m None r = m
+fact_with m (Some o) (reply.Took did id i) = Take (record { number = i.n; signal = i.sig; queue = o.queue; transfers = o.transfers })
+fact_with m (Some o) _ = m
+
+-- by the queue that it took from and its reply
 abbrev pub fact_after : EntryFact → Option Target → List IdTransfer → Reply → EntryFact
-fact_after m None ps r = m
-fact_after m (Some q) ps (reply.Took did id i) = Take (record { number = i.n; signal = i.sig; queue = q; transfers = transfers_in ps q })
-fact_after m (Some q) ps _ = m
+fact_after m q ps r = fact_with m (origin_of ps q) r
+
+-- the reply of a wait for a stop tells the thread that stopped
+abbrev pub IsOfStop : EntryFact → Reply → Type 0
+IsOfStop (Stop s) (reply.Waited id word r) = id ≡ s.thread
+IsOfStop _ _ = Unit {0}
+
+-- the note of an entry with this reply, of which this is noticed
+abbrev pub note_noticed : Noticed → Reply → Note
+note_noticed n r = record { fact = fact_with (shown n.before) n.origin r; killed = n.killed; deaths = n.deaths }
 
 -- the note of an entry that did this work, after so many deaths of groups
 abbrev pub note_with : EntryFact → ℕ → Work → Note

@@ -48,6 +48,30 @@ const _: () = prove!(
         < 72 * BLOCK
 );
 
+/// Makes room as `make_room`, where there is none for sure.
+#[cold]
+#[inline(never)]
+fn grow(
+    journal: &mut Journal,
+    fates: &mut Fates,
+    notes: &mut Notes,
+    deaths: usize,
+) -> Result<(), AllocError>
+    ensures entries { journal.new.entries ≡ journal.old.entries }
+    ensures replies { journal.new.replies ≡ journal.old.replies }
+    ensures fates { fates.new.fates ≡ fates.old.fates }
+    ensures notes { journal.new.notes ≡ journal.old.notes }
+    ensures dying { notes.new.dying ≡ notes.old.dying }
+    ensures transfers { notes.new.transfers ≡ notes.old.transfers }
+    ensures entry_room { OnOk result (0 < journal.new.room) }
+    ensures fate_room { OnOk result (1024 ≤ fates.new.room) }
+    ensures note_room { OnOk result (deaths ≤ notes.new.room) }
+{
+    journal.reserve_one()?;
+    fates.reserve(ACCEPTED_AT_ONCE)?;
+    notes.reserve(deaths)
+}
+
 /// Makes room for an entry, the signals that it accepts and its note, by which at most this many deaths of groups begin.
 /// Mostly there is room, and nothing is called.
 #[inline(always)]
@@ -60,7 +84,7 @@ fn make_room(
     ensures entries { journal.new.entries ≡ journal.old.entries }
     ensures replies { journal.new.replies ≡ journal.old.replies }
     ensures fates { fates.new.fates ≡ fates.old.fates }
-    ensures notes { notes.new.notes ≡ notes.old.notes }
+    ensures notes { journal.new.notes ≡ journal.old.notes }
     ensures dying { notes.new.dying ≡ notes.old.dying }
     ensures transfers { notes.new.transfers ≡ notes.old.transfers }
     ensures entry_room { OnOk result (0 < journal.new.room) }
@@ -70,9 +94,7 @@ fn make_room(
     if journal.has_room() && fates.has_room(ACCEPTED_AT_ONCE) && notes.has_room(deaths) {
         return Ok(());
     }
-    journal.reserve_one()?;
-    fates.reserve(ACCEPTED_AT_ONCE)?;
-    notes.reserve(deaths)
+    grow(journal, fates, notes, deaths)
 }
 
 /// Makes the entry of an event that is due, with any choice that the model admits, and writes it down, with its reply, the
@@ -91,7 +113,7 @@ pub(crate) fn write_entry(
 ) -> Result<Reply, AllocError>
     requires due { Permits step.old.work.table actor event.now choice }
     requires few_passes { (id : ℕ) → times id notes.old.transfers < 2 ^ 32 }
-    requires few_notes { length notes.old.notes < 2 ^ 32 }
+    requires few_notes { length journal.old.notes < 2 ^ 32 }
     requires counted { length fates.old.fates ≡ step.old.work.table.accepted }
     requires bounded { AcceptsFew step.old.work.table
         (after step.old.work.table (entry_with actor event.now choice)).work.table }
@@ -107,8 +129,8 @@ pub(crate) fn write_entry(
     ensures fates { OnOk result (fates.new.fates
         ≡ fates_after fates.old.fates
         (after step.old.work.table (entry_with actor event.now choice)).work) }
-    ensures notes { OnOk result (notes.new.notes
-        ≡ notes.old.notes
+    ensures notes { OnOk result (journal.new.notes
+        ≡ journal.old.notes
         ++ noted notes.old.transfers (length notes.old.dying) step.old.work.table
         (entry_with actor event.now choice) ∷ []) }
     ensures dying { OnOk result (notes.new.dying
@@ -122,7 +144,7 @@ pub(crate) fn write_entry(
     ensures err_journal { OnErr result (journal.new.entries ≡ journal.old.entries) }
     ensures err_replies { OnErr result (journal.new.replies ≡ journal.old.replies) }
     ensures err_fates { OnErr result (fates.new.fates ≡ fates.old.fates) }
-    ensures err_notes { OnErr result (notes.new.notes ≡ notes.old.notes) }
+    ensures err_notes { OnErr result (journal.new.notes ≡ journal.old.notes) }
     ensures err_dying { OnErr result (notes.new.dying ≡ notes.old.dying) }
     ensures err_passed { OnErr result (notes.new.transfers ≡ notes.old.transfers) }
 {
@@ -130,8 +152,8 @@ pub(crate) fn write_entry(
     let fact = fact_before(step.table(), actor, event, choice);
     let reply = change(step, alloc, actor, event, choice)?;
     fates.enter(step.table().accepted() as usize - fates.len(), step.ended());
-    notes.note(fact, step, &reply);
+    let noticed = notes.notice(fact, step, &reply);
     let entry = Entry::new(actor, *event, choice);
-    journal.push(&entry, &reply);
+    journal.push(&entry, &reply, &noticed);
     Ok(reply)
 }

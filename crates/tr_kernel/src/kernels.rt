@@ -85,7 +85,7 @@ impl Model for Kernel {
           fates = k.fates.fates;
         })
         × IsNoted (table_of k.start) k.journal.entries
-        k.notes.notes k.notes.dying k.notes.transfers };
+        k.journal.notes k.notes.dying k.notes.transfers };
 }
 
 impl Kernel {
@@ -196,7 +196,7 @@ impl Kernel {
             ≡ fact_at (notes_of (table_of self.now.start) self.now.journal) position }
         ensures history { IsHistory self.now }
     {
-        fact_in(&self.notes.list().at(position))
+        fact_in(&self.journal.note_at(position))
     }
 
     /// Whether the entry at a position delivers a KILL.
@@ -204,7 +204,7 @@ impl Kernel {
         ensures { IsTrue result
             ↔ ((g : ℕ) × KillsAt (table_of self.now.start) self.now.journal position g) }
     {
-        is_killed(&self.notes.list().at(position))
+        is_killed(&self.journal.note_at(position))
     }
 
     /// The position of the first entry, between a wait for this thread's stop and a later position, that restarts the
@@ -222,8 +222,7 @@ impl Kernel {
         let place = first_restart(
             stop,
             tracer,
-            self.journal.entries(),
-            self.notes.list(),
+            &self.journal,
             self.notes.dying(),
             i as usize,
             j as usize - 1,

@@ -1,9 +1,9 @@
-ghost use Rattle.std.specs.Prelude.{◌≡◌, ◌↔◌, ◌≤◌, ◌<◌, ◌+◌, ◌++◌, ◌∷◌, ◌^◌, [], ℕ, IsTrue, false, length, option_copied, vec_len, vec_capacity, OnOk};
-ghost use Rattle.tr_kernel.specs.Notes.{exec_fact, is_stop_status, shows_stop, stop_fact, times};
-ghost use Rattle.tr_kernel.specs.Private.{AreTransferred, killed_in, fact_after, fact_before, fact_in, note_with, shown, transfers_in};
+ghost use Rattle.std.specs.Prelude.{◌≡◌, ◌↔◌, ◌≤◌, ◌<◌, ◌+◌, ◌++◌, ◌∷◌, ◌^◌, [], ℕ, IsTrue, length, option_copied, vec_len, vec_capacity, OnOk};
+ghost use Rattle.tr_model.specs.Compare.{Permits};
+ghost use Rattle.tr_kernel.specs.Notes.{exec_fact, is_some_group, is_stop_status, shows_stop, stop_fact, times};
+ghost use Rattle.tr_kernel.specs.Private.{AreTransferred, fact_after, fact_before, fact_in, fact_with, killed_in, note_noticed, note_with, origin_of, shown, transfers_in};
 
 use crate::lists::append;
-use crate::note_list::NoteList;
 use std::alloc::{AllocError, Global};
 use std::marker::Model;
 use tr_ends::ready_thread;
@@ -66,6 +66,24 @@ impl FactBefore {
     }
 }
 
+/// The queue that a take took from, and how often the id of its thread had passed to another thread by then.
+#[derive(Clone, Copy)]
+pub(crate) struct Origin {
+    pub(crate) queue: Target,
+    pub(crate) transfers: u32,
+}
+
+/// What is noticed of an entry beside its reply.
+#[derive(Clone, Copy)]
+pub(crate) struct Noticed {
+    pub(crate) before: FactBefore,
+    pub(crate) origin: Option<Origin>,
+    /// It delivered a KILL.
+    pub(crate) killed: bool,
+    /// How many deaths of groups had begun after it.
+    pub(crate) deaths: u32,
+}
+
 /// What an entry leaves.
 #[derive(Clone, Copy)]
 pub(crate) struct Note {
@@ -83,20 +101,18 @@ pub(crate) struct IdTransfer {
     pub(crate) times: u64,
 }
 
-/// The notes of a journal: one for each entry, and all groups whose death began, in order. Of each id that passed to
-/// another thread stands how often.
+/// What the entries of a journal have in common to the laws: all groups whose death began, in order, and of each id that
+/// passed to another thread how often.
 pub(crate) struct Notes {
-    list: NoteList,
     dying: Vec<u32>,
     transfers: Vec<IdTransfer>,
-    /// How many deaths one more entry may begin, for which there is also a note's place.
+    /// How many deaths one more entry may begin, for which there is also the place of an id.
     room: usize,
 }
 
 impl Drop for Notes {
     fn drop(self) {
         let Notes {
-            list: _,
             dying: _,
             transfers: _,
             room: _,
@@ -165,6 +181,7 @@ fn exec_fact(thread: Option<&Thread>) -> FactBefore
 /// What an entry is to the laws, as far as the table before it shows.
 #[inline(always)]
 pub(crate) fn fact_before(table: &Table, actor: u32, event: &Event, choice: Choice) -> FactBefore
+    requires due { Permits table.now.table actor event.now choice }
     ensures { shown result ≡ fact_before table.now.table actor event.now choice }
 {
     match event {
@@ -172,7 +189,7 @@ pub(crate) fn fact_before(table: &Table, actor: u32, event: &Event, choice: Choi
             table,
             actor,
             *which,
-            choice.report().unwrap_or(0),
+            choice.report().unwrap(),
         )),
         Event::Exec { tid } => exec_fact(table.find(*tid)),
         _ => FactBefore::Nothing,
@@ -232,19 +249,17 @@ fn count_first_transfer(transfers: &mut Vec<IdTransfer>, ids: &[u32])
 
 // What the step shows
 
-fn took_fact(fact: FactBefore, queue: Target, transfers: &[IdTransfer], reply: &Reply) -> EntryFact
+/// The queue that a step took from, with the transfers of its id.
+#[inline(always)]
+fn origin_of(transfers: &[IdTransfer], queue: Option<Target>) -> Option<Origin>
     requires few { (n : ℕ) → times n transfers.now < 2 ^ 32 }
-    ensures { result ≡ fact_after (shown fact) (Some queue) transfers.now reply.now }
+    ensures { result ≡ origin_of transfers.now queue }
 {
-    match reply {
-        Reply::Took { inst, .. } => EntryFact::Take(TakenFrom {
-            number: inst.n,
-            signal: inst.sig,
-            queue,
-            transfers: transfers_in(transfers, queue),
-        }),
-        _ => fact.fact(),
-    }
+    let queue = queue?;
+    Some(Origin {
+        queue,
+        transfers: transfers_in(transfers, queue),
+    })
 }
 
 fn append_all(list: &mut Vec<u32>, more: &[u32])
@@ -256,13 +271,34 @@ fn append_all(list: &mut Vec<u32>, more: &[u32])
     }
 }
 
-/// Tells for how many deaths there is still room, where there was for so many: for none, if no note has a place.
-#[inline(always)]
-fn room_left(list: &NoteList, room: usize) -> usize
-    ensures left { 0 < list.now.room → result ≡ room }
-    ensures full { list.now.room ≡ 0 → result ≡ 0 }
+/// What an entry with this reply is to the laws.
+fn fact_with(before: FactBefore, origin: Option<Origin>, reply: &Reply) -> EntryFact
+    ensures { result ≡ fact_with (shown before) origin reply.now }
 {
-    if list.has_room() { room } else { 0 }
+    match (origin, reply) {
+        (Some(Origin { queue, transfers }), Reply::Took { inst, .. }) => {
+            EntryFact::Take(TakenFrom {
+                number: inst.n,
+                signal: inst.sig,
+                queue,
+                transfers,
+            })
+        }
+        _ => before.fact(),
+    }
+}
+
+impl Noticed {
+    /// The note of an entry with this reply.
+    pub(crate) fn note(&self, reply: &Reply) -> Note
+        ensures { result ≡ note_noticed self.now reply.now }
+    {
+        Note {
+            fact: fact_with(self.before, self.origin, reply),
+            killed: self.killed,
+            deaths: self.deaths,
+        }
+    }
 }
 
 // What a note says
@@ -287,22 +323,14 @@ pub(crate) fn is_killed(note: &Option<Note>) -> bool
 
 impl Notes {
     pub(crate) fn new(alloc: Global) -> Notes
-        ensures notes { result.notes ≡ [] }
         ensures dying { result.dying ≡ [] }
         ensures transfers { result.transfers ≡ [] }
     {
         Notes {
-            list: NoteList::new(alloc),
             dying: Vec::new(alloc),
             transfers: Vec::new(alloc),
             room: 0,
         }
-    }
-
-    pub(crate) fn list(&self) -> &NoteList
-        ensures { result.now.notes ≡ self.now.notes }
-    {
-        &self.list
     }
 
     pub(crate) fn dying(&self) -> &[u32]
@@ -311,13 +339,11 @@ impl Notes {
         self.dying.as_slice()
     }
 
-    /// Makes room for the note of one entry, by which at most this many deaths of groups begin. Where memory is refused
-    /// the notes are as before. It is refused also where 2^32 deaths might come to be listed, since a
-    /// note counts them in four bytes.
+    /// Makes room for one entry, by which at most this many deaths of groups begin. Where memory is refused the notes are as
+    /// before. It is refused also where 2^32 deaths might come to be listed, since a note counts them in four bytes.
     #[cold]
     #[inline(never)]
     pub(crate) fn reserve(&mut self, deaths: usize) -> Result<(), AllocError>
-        ensures notes { self.new.notes ≡ self.old.notes }
         ensures dying { self.new.dying ≡ self.old.dying }
         ensures transfers { self.new.transfers ≡ self.old.transfers }
         ensures room { OnOk result (deaths ≤ self.new.room) }
@@ -326,14 +352,13 @@ impl Notes {
         if deaths > MOST_DEATHS - self.dying.len() {
             return Err(AllocError);
         }
-        self.list.reserve_one()?;
         self.dying.reserve(deaths)?;
         self.transfers.reserve(1)?;
         self.room = deaths;
         Ok(())
     }
 
-    /// Whether there is room for the note of one entry, by which so many deaths of groups begin.
+    /// Whether there is room for one entry, by which so many deaths of groups begin.
     #[inline(always)]
     pub(crate) fn has_room(&self, deaths: usize) -> bool
         ensures { IsTrue result ↔ deaths ≤ self.now.room }
@@ -341,112 +366,61 @@ impl Notes {
         deaths <= self.room
     }
 
-    /// Notes an entry, for which there is room: what it was before the step, and what the step made.
+    /// Notes what a step did, for which there is room, and tells what is noticed of its entry: of what it was before the
+    /// step, and of what the step made.
     #[inline(always)]
-    pub(crate) fn note(&mut self, fact: FactBefore, step: &Step, reply: &Reply)
+    pub(crate) fn notice(&mut self, before: FactBefore, step: &Step, reply: &Reply) -> Noticed
         requires room { 0 < self.old.room }
         requires dying { length step.now.work.dying ≤ self.old.room }
-        requires few_notes { length self.old.notes < 2 ^ 32 }
         requires few { (n : ℕ) → times n self.old.transfers < 2 ^ 32 }
         requires one { length step.now.work.renamed ≤ 1 }
-        ensures notes { self.new.notes
-            ≡ self.old.notes
-            ++ note_with (fact_after (shown fact) step.now.taken_from self.old.transfers reply.now)
-            (length self.old.dying) step.now.work ∷ [] }
+        ensures before { result.before ≡ before }
+        ensures noticed { note_noticed result reply.now
+            ≡ note_with (fact_after (shown before) step.now.taken_from self.old.transfers reply.now)
+            (length self.old.dying) step.now.work }
         ensures dying { self.new.dying ≡ self.old.dying ++ step.now.work.dying }
         ensures transfers { AreTransferred step.now.work.renamed self.old.transfers self.new.transfers }
     {
-        if matches!(fact, FactBefore::Nothing)
-            && step.news().taken_from().is_none()
-            && step.news().is_plain()
-            && self.list.push_blank(self.dying.len() as u32)
-        {
-            return;
-        }
-        self.note_made(fact, step, *reply);
-    }
-
-    /// Notes an entry that may be something to the laws: mostly a take or a stop, by its fact alone.
-    #[inline(always)]
-    fn note_made(&mut self, fact: FactBefore, step: &Step, reply: Reply)
-        requires room { 0 < self.old.room }
-        requires dying { length step.now.work.dying ≤ self.old.room }
-        requires few_notes { length self.old.notes < 2 ^ 32 }
-        requires few { (n : ℕ) → times n self.old.transfers < 2 ^ 32 }
-        requires one { length step.now.work.renamed ≤ 1 }
-        ensures notes { self.new.notes
-            ≡ self.old.notes
-            ++ note_with (fact_after (shown fact) step.now.taken_from self.old.transfers reply)
-            (length self.old.dying) step.now.work ∷ [] }
-        ensures dying { self.new.dying ≡ self.old.dying ++ step.now.work.dying }
-        ensures transfers { AreTransferred step.now.work.renamed self.old.transfers self.new.transfers }
-    {
-        match step.news().taken_from() {
-            Some(queue) => {
-                let fact = took_fact(fact, queue, &self.transfers, &reply);
-                self.note_fact(fact, step);
-            }
-            None => self.note_fact(fact.fact(), step),
+        let origin = match reply {
+            Reply::Took { .. } => origin_of(&self.transfers, step.news().taken_from()),
+            _ => None,
+        };
+        let killed = !step.news().is_plain() && self.note_news(step);
+        Noticed {
+            before,
+            origin,
+            killed,
+            deaths: self.dying.len() as u32,
         }
     }
 
-    /// Notes an entry that is this to the laws.
-    ///
-    /// It is inlined for a take and for all others, so that the fact of neither comes through memory.
-    #[inline(always)]
-    fn note_fact(&mut self, fact: EntryFact, step: &Step)
-        requires room { 0 < self.old.room }
-        requires dying { length step.now.work.dying ≤ self.old.room }
-        requires few_notes { length self.old.notes < 2 ^ 32 }
-        requires few { (n : ℕ) → times n self.old.transfers < 2 ^ 32 }
-        requires one { length step.now.work.renamed ≤ 1 }
-        ensures notes { self.new.notes
-            ≡ self.old.notes ++ note_with fact (length self.old.dying) step.now.work ∷ [] }
-        ensures dying { self.new.dying ≡ self.old.dying ++ step.now.work.dying }
-        ensures transfers { AreTransferred step.now.work.renamed self.old.transfers self.new.transfers }
-    {
-        let plain = step.news().is_plain();
-        if plain && self.list.push_fact(&fact, self.dying.len() as u32) {
-            self.room = room_left(&self.list, self.room);
-            return;
-        }
-        self.note_whole(fact, step);
-    }
-
-    /// Notes an entry with more to note than its fact, or with a fact that is too long to stand alone. Few are.
+    /// Notes a step by which a group began to die, a KILL was delivered or an id passed on, and tells whether a KILL was. Few
+    /// steps are so.
     #[cold]
     #[inline(never)]
-    fn note_whole(&mut self, fact: EntryFact, step: &Step)
+    fn note_news(&mut self, step: &Step) -> bool
         requires room { 0 < self.old.room }
         requires dying { length step.now.work.dying ≤ self.old.room }
-        requires few_notes { length self.old.notes < 2 ^ 32 }
         requires few { (n : ℕ) → times n self.old.transfers < 2 ^ 32 }
         requires one { length step.now.work.renamed ≤ 1 }
-        ensures notes { self.new.notes
-            ≡ self.old.notes ++ note_with fact (length self.old.dying) step.now.work ∷ [] }
+        ensures killed { result ≡ is_some_group step.now.work.killed }
         ensures dying { self.new.dying ≡ self.old.dying ++ step.now.work.dying }
         ensures transfers { AreTransferred step.now.work.renamed self.old.transfers self.new.transfers }
     {
         self.room = 0;
         append_all(&mut self.dying, step.news().dying());
         count_first_transfer(&mut self.transfers, step.news().renamed());
-        let note = Note {
-            fact,
-            killed: !step.news().killed().is_empty(),
-            deaths: self.dying.len() as u32,
-        };
-        self.list.push(&note);
         self.count_room();
+        !step.news().killed().is_empty()
     }
 
     /// Counts the room that is left.
     #[inline(always)]
     fn count_room(&mut self)
-        ensures notes { self.new.notes ≡ self.old.notes }
         ensures dying { self.new.dying ≡ self.old.dying }
         ensures transfers { self.new.transfers ≡ self.old.transfers }
     {
-        self.room = if self.list.has_room() && self.transfers.len() < self.transfers.capacity() {
+        self.room = if self.transfers.len() < self.transfers.capacity() {
             self.dying.capacity().min(MOST_DEATHS) - self.dying.len()
         } else {
             0

@@ -2,7 +2,7 @@ ghost use Rattle.std.specs.Prelude.{◌≡◌, ◌≤◌, ◌<◌, ◌-◌, ◌=
 ghost use Rattle.std.specs.List.{list_any};
 ghost use Rattle.tr_kernel.specs.Private.{AreOrdered, deaths_in, deaths_to, is_exec_in, is_restart, restarts_at};
 
-use crate::note_list::NoteList;
+use crate::journal::Journal;
 use crate::notes::{EntryFact, Note, Stopped};
 use tr_model::{Entry, Event};
 
@@ -42,12 +42,12 @@ fn deaths_in(note: &Option<Note>) -> u32
 }
 
 /// How many deaths of groups had begun before the entry at a place, counted from 0.
-fn deaths_to(notes: &NoteList, place: usize) -> u32
-    requires { place ≤ length notes.now.notes }
-    ensures { result ≡ deaths_to notes.now.notes place }
+fn deaths_to(journal: &Journal, place: usize) -> u32
+    requires { place ≤ length journal.now.notes }
+    ensures { result ≡ deaths_to journal.now.notes place }
 {
     match place.checked_sub(1) {
-        Some(last) => deaths_in(&notes.get(last)),
+        Some(last) => deaths_in(&journal.note(last)),
         None => 0,
     }
 }
@@ -63,50 +63,43 @@ fn died(dying: &[u32], before: u32, after: u32, group: u32) -> bool
 }
 
 /// Whether the entry at a place restarts the thread, or begins the death of its group.
-fn restarts_at(
-    stop: &Stopped,
-    tracer: u32,
-    journal: &[Entry],
-    notes: &NoteList,
-    dying: &[u32],
-    place: usize,
-) -> bool
-    requires place { place < length journal.now }
-    requires notes { length notes.now.notes ≡ length journal.now }
-    requires ordered { AreOrdered notes.now.notes (length dying.now) }
-    ensures { result ≡ restarts_at stop.now tracer journal.now notes.now.notes dying.now place }
+fn restarts_at(stop: &Stopped, tracer: u32, journal: &Journal, dying: &[u32], place: usize) -> bool
+    requires place { place < length journal.now.entries }
+    requires notes { length journal.now.notes ≡ length journal.now.entries }
+    requires ordered { AreOrdered journal.now.notes (length dying.now) }
+    ensures { result
+        ≡ restarts_at stop.now tracer journal.now.entries journal.now.notes dying.now place }
 {
-    let Some(note) = notes.get(place) else {
+    let Some(note) = journal.note(place) else {
         return false;
     };
-    is_restart(stop, tracer, &journal[place], &note.fact)
-        || died(dying, deaths_to(notes, place), note.deaths, stop.group)
+    is_restart(stop, tracer, journal.entry(place), &note.fact)
+        || died(dying, deaths_to(journal, place), note.deaths, stop.group)
 }
 
 /// The first place, of those from one up to another, whose entry restarts the thread or begins the death of its group.
 pub(crate) fn first_restart(
     stop: &Stopped,
     tracer: u32,
-    journal: &[Entry],
-    notes: &NoteList,
+    journal: &Journal,
     dying: &[u32],
     from: usize,
     to: usize,
 ) -> Option<usize>
-    requires to { to ≤ length journal.now }
-    requires notes { length notes.now.notes ≡ length journal.now }
-    requires ordered { AreOrdered notes.now.notes (length dying.now) }
+    requires to { to ≤ length journal.now.entries }
+    requires notes { length journal.now.notes ≡ length journal.now.entries }
+    requires ordered { AreOrdered journal.now.notes (length dying.now) }
     ensures found { IfSome result (λ p. (from ≤ p)
         × (p < to)
-        × (restarts_at stop.now tracer journal.now notes.now.notes dying.now p ≡ true)) }
+        × (restarts_at stop.now tracer journal.now.entries journal.now.notes dying.now p ≡ true)) }
     ensures none { result ≡ None
         → (p : ℕ)
         → from ≤ p
         → p < to
-        → restarts_at stop.now tracer journal.now notes.now.notes dying.now p ≡ false }
+        → restarts_at stop.now tracer journal.now.entries journal.now.notes dying.now p ≡ false }
 {
     for place in from..to {
-        if restarts_at(stop, tracer, journal, notes, dying, place) {
+        if restarts_at(stop, tracer, journal, dying, place) {
             return Some(place);
         }
     }

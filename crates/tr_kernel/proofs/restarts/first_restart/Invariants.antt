@@ -3,4 +3,4 @@ use Rattle.tr_kernel.specs.Private.{restarts_at}
 use Rattle.tr_kernel.proofs.restarts.first_restart.Given as goal
 
 abbrev pub invariant-loop-place : goal.invariant-loop-place
-invariant-loop-place l = (p : ℕ) → l.from ≤ p → p < l.place → restarts_at l.stop l.tracer l.journal l.notes.notes l.dying p ≡ false
+invariant-loop-place l = (p : ℕ) → l.from ≤ p → p < l.place → restarts_at l.stop l.tracer l.journal.entries l.journal.notes l.dying p ≡ false

@@ -7,11 +7,11 @@ use Rattle.tr_kernel.proofs.Restarted.{restart_found, restart_none}
 use Rattle.tr_kernel.proofs.kernels.Kernel.first_restart.Goals as goal
 
 pub first_restart-requires-clause-notes : goal.first_restart-requires-clause-notes
-first_restart-requires-clause-notes c = ap length c.list.ensures ∙ (ap length c.self.invariant.1.notes ∙ (length_notes _ _ _ _ ∙ sym (ap length c.entries.ensures)))
+first_restart-requires-clause-notes c = ap length c.self.invariant.1.notes ∙ length_notes _ _ _ _
 
 pub first_restart-requires-clause-ordered : goal.first_restart-requires-clause-ordered
 first_restart-requires-clause-ordered c =
-    let n = c.list.ensures ∙ c.self.invariant.1.notes in
+    let n = c.self.invariant.1.notes in
     let d = c.dying.ensures ∙ c.self.invariant.1.dying in
     let T = table_of c.self.inside.start in
     let es = c.self.inside.journal.entries in
@@ -20,11 +20,11 @@ first_restart-requires-clause-ordered c =
 pub returns-in_err-place-clause-none : goal.returns-in_err-place-clause-none
 returns-in_err-place-clause-none c =
     let h = rw (← c.self.view_is) at c.requires in
-    let f = rw (c.actor-tracer.ensures, c.entries.ensures, c.list.ensures, c.dying.ensures, c.self.invariant.1.notes, c.self.invariant.1.dying) at (c.first_restart.ensures.none c.in_err-place.was) in
+    let f = rw (c.actor-tracer.ensures, c.dying.ensures, c.self.invariant.1.notes, c.self.invariant.1.dying) at (c.first_restart.ensures.none c.in_err-place.was) in
     λ q. rw (← c.self.view_is) (restart_none _ _ c.args.i c.args.j c.args.stop.now c.entry.result.now h.0 h.1 h.2 c.entry.ensures f)
 
 pub returns-clause-found : goal.returns-clause-found
 returns-clause-found c =
     let h = rw (← c.self.view_is) at c.requires in
-    let f = rw (c.actor-tracer.ensures, c.entries.ensures, c.list.ensures, c.dying.ensures, c.self.invariant.1.notes, c.self.invariant.1.dying) at c.in_ok-place.ensures.found in
+    let f = rw (c.actor-tracer.ensures, c.dying.ensures, c.self.invariant.1.notes, c.self.invariant.1.dying) at c.in_ok-place.ensures.found in
     rw (← c.self.view_is) (restart_found _ _ c.args.i c.args.j c.in_ok-place.place c.args.stop.now c.entry.result.now h.0 f.0 f.1 h.2 c.entry.ensures f.2)
